@@ -1,0 +1,43 @@
+use Rattle.std.proofs.Common.{◌≡◌, arith}
+use Rattle.std.proofs.lemmas.Int.{ints}
+use Rattle.pf_rat.proofs.Products.{comes_back}
+use Rattle.pf_net.proofs.Capacity.{short}
+use Rattle.pf_net.proofs.checks.capacity.Goals as goal
+
+pub overflow_add-result : goal.overflow_add-result
+overflow_add-result c =
+    let s = c.requires in
+    let f = c.q.ensures.bounds in
+    let b = short c.args.arc.now c.args.at.now s f in
+    let first : c.from.result ≡ c.args.arc.now.a = omega (arith, ints, c.from.ensures, s.a_low, s.a_high) in
+    let second : c.from-2.result ≡ c.args.arc.now.b = omega (arith, ints, c.from-2.ensures, s.b_low, s.b_high) in
+    rw (
+      first,
+      second,
+      c.q.ensures.value,
+      c.p.ensures.value,
+      comes_back c.args.arc.now.a (omega (arith, ints, s.a_low, s.a_high)),
+      comes_back c.args.at.now.q (omega (arith, ints, f.parameter, f.q_high)),
+      comes_back c.args.arc.now.b (omega (arith, ints, s.b_low, s.b_high)),
+      comes_back c.args.at.now.p (omega (arith, ints, f.p_low, f.p_high)),
+    )
+    (omega (arith, ints, b.constant, b.slope))
+
+pub returns : goal.returns
+returns c =
+    let s = c.requires in
+    let f = c.q.ensures.bounds in
+    let b = short c.args.arc.now c.args.at.now s f in
+    let first : c.from.result ≡ c.args.arc.now.a = omega (arith, ints, c.from.ensures, s.a_low, s.a_high) in
+    let second : c.from-2.result ≡ c.args.arc.now.b = omega (arith, ints, c.from-2.ensures, s.b_low, s.b_high) in
+    rw (
+      first,
+      second,
+      c.q.ensures.value,
+      c.p.ensures.value,
+      comes_back c.args.arc.now.a (omega (arith, ints, s.a_low, s.a_high)),
+      comes_back c.args.at.now.q (omega (arith, ints, f.parameter, f.q_high)),
+      comes_back c.args.arc.now.b (omega (arith, ints, s.b_low, s.b_high)),
+      comes_back c.args.at.now.p (omega (arith, ints, f.p_low, f.p_high)),
+    )
+    (omega (arith, ints, b.constant, b.slope))

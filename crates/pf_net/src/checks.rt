@@ -1,0 +1,120 @@
+// The first reason against a network.
+ghost use Rattle.std.specs.Prelude.{◌≡◌, ◌<◌, ◌≤◌, pos, ◌<ℤ◌, List, false, ◌||◌};
+ghost use Rattle.std.specs.List.{list_any};
+ghost use Rattle.pf_model.specs.declared.AffineArc.{AffineArc};
+ghost use Rattle.pf_model.specs.declared.Sense.TheVariants.{Rising};
+ghost use Rattle.pf_model.specs.Fraction.{IsParameter};
+ghost use Rattle.pf_model.specs.Network.{capacity_at, keeps_slope};
+ghost use Rattle.pf_net.specs.Limits.{IsSmallArc};
+ghost use Rattle.pf_net.specs.Refusal.{is_large, is_far, is_too_big, arc_refusal, arcs_refusal, refusal_of};
+
+use crate::net::NetBad;
+use pf_model::AffineArc;
+use pf_rat::Rat;
+use std::cmp::Ordering;
+
+const MOST_NODES: u32 = 8192;
+
+const MOST_ARCS: usize = 32768;
+
+// A coefficient is past its limit.
+fn has_large(arc: &AffineArc) -> bool
+    ensures { result ≡ is_large arc.now }
+{
+    arc.a.unsigned_abs() > 1 << 56 || arc.b.unsigned_abs() > 1 << 30
+}
+
+fn any_large(arcs: &[AffineArc]) -> bool
+    ensures { result ≡ list_any is_large arcs.now }
+{
+    arcs.iter().any(|arc| has_large(arc))
+}
+
+// The parameter has a size above 2^44.
+fn lies_far(x: &Rat) -> bool
+    ensures { result ≡ is_far x.now }
+{
+    (x.q() << 44) < x.p().abs()
+}
+
+// The capacity at `p/q`, in units of `1/q`.
+pub fn capacity(arc: &AffineArc, at: &Rat) -> i128
+    requires { IsSmallArc arc.now }
+    ensures { result ≡ capacity_at at.now arc.now }
+{
+    i128::from(arc.a) * at.q() + i128::from(arc.b) * at.p()
+}
+
+// The slope rule of a rising network.
+fn keeps_rule(s: u32, t: u32, arc: &AffineArc) -> bool
+    ensures { result ≡ keeps_slope Rising s t arc.now }
+{
+    if arc.tail == s && arc.head != s && arc.head != t {
+        arc.b >= 0
+    } else if arc.head == t && arc.tail != t && arc.tail != s {
+        arc.b <= 0
+    } else {
+        arc.b == 0
+    }
+}
+
+// The first reason against the arc of the number `i`.
+fn against_arc(
+    n: u32,
+    s: u32,
+    t: u32,
+    lo: &Rat,
+    hi: &Rat,
+    i: usize,
+    arc: &AffineArc,
+) -> Option<NetBad>
+    requires { is_large arc.now ≡ false }
+    ensures { (all : List AffineArc) → result ≡ arc_refusal (record { nodes = n; source = s; sink = t; sense = Rising; low = lo.now; high = hi.now; arcs = all }) i arc.now }
+{
+    if arc.tail >= n || arc.head >= n {
+        return Some(NetBad::BadEnd(i));
+    }
+    if !keeps_rule(s, t, arc) {
+        return Some(NetBad::NotMonotone(i));
+    }
+    if capacity(arc, lo) < 0 || capacity(arc, hi) < 0 {
+        return Some(NetBad::Negative(i));
+    }
+    None
+}
+
+// The first reason against an arc.
+fn against_arcs(n: u32, s: u32, t: u32, lo: &Rat, hi: &Rat, arcs: &[AffineArc]) -> Option<NetBad>
+    requires { list_any is_large arcs.now ≡ false }
+    ensures { (all : List AffineArc) → result ≡ arcs_refusal (record { nodes = n; source = s; sink = t; sense = Rising; low = lo.now; high = hi.now; arcs = all }) 0 arcs.now }
+{
+    'arcs: for i in 0..arcs.len() {
+        if let Some(bad) = against_arc(n, s, t, lo, hi, i, &arcs[i]) {
+            return Some(bad);
+        }
+    }
+    None
+}
+
+/// The first reason against a network, in the order in which `Net::build` answers it.
+pub fn first_refusal(
+    n: u32,
+    s: u32,
+    t: u32,
+    lo: &Rat,
+    hi: &Rat,
+    arcs: &[AffineArc],
+) -> Option<NetBad>
+    ensures { result ≡ refusal_of (record { nodes = n; source = s; sink = t; sense = Rising; low = lo.now; high = hi.now; arcs = arcs.now }) }
+{
+    if n > MOST_NODES || arcs.len() > MOST_ARCS || any_large(arcs) || lies_far(lo) || lies_far(hi) {
+        return Some(NetBad::TooBig);
+    }
+    if s == t {
+        return Some(NetBad::SameEnds);
+    }
+    if lo.cmp(hi) != Ordering::Less {
+        return Some(NetBad::EmptyInterval);
+    }
+    against_arcs(n, s, t, lo, hi, arcs)
+}

@@ -1,0 +1,195 @@
+// A network, and how it is built.
+ghost use Rattle.std.specs.Prelude.{◌≡◌, ◌≢◌, ◌<◌, ◌≤◌, length, get_or, map, pos, IfOk, Some, None, Err};
+ghost use Rattle.pf_model.specs.declared.AffineArc.{AffineArc};
+ghost use Rattle.pf_model.specs.declared.Sense.TheVariants.{Rising};
+ghost use Rattle.pf_model.specs.Network.{Network, IsInInterval, IsNetworkCut, capacity_at, cut_a, cut_b};
+ghost use Rattle.pf_frame.specs.Numbers.{IsBounded};
+ghost use Rattle.pf_net.specs.Limits.{IsBuilt, graph_of};
+ghost use Rattle.pf_net.specs.Refusal.{refusal_of};
+
+use crate::checks::first_refusal;
+use crate::sums::{capacities, line_of};
+use pf_frame::{Frame, NoMemory};
+use pf_model::AffineArc;
+use pf_rat::{Line, Rat};
+use std::alloc::Global;
+use std::marker::Model;
+use thiserror::Error;
+
+/// Why arcs, ends and an interval are no network. The number is the arc's, from 0.
+#[derive(Clone, Copy, Debug, PartialEq, Eq, Error)]
+pub enum NetBad {
+    #[error("a number is past its limit")]
+    TooBig,
+    #[error("source and sink are one node")]
+    SameEnds,
+    #[error("the interval is empty")]
+    EmptyInterval,
+    #[error("arc {0} has an end that is no node")]
+    BadEnd(usize),
+    #[error("arc {0} breaks the slope rule")]
+    NotMonotone(usize),
+    #[error("arc {0} has a capacity below 0")]
+    Negative(usize),
+    #[error("no memory")]
+    NoMemory,
+}
+
+/// A rising parametric network. The capacity of an arc at the parameter `l` is `a + b l`.
+#[derive(Drop)]
+pub struct Net {
+    frame: Frame,
+    arcs: Vec<AffineArc>,
+    s: u32,
+    t: u32,
+    lo: Rat,
+    hi: Rat,
+}
+
+impl Model for Net {
+    ghost use Rattle.std.specs.Prelude.{◌≡◌};
+    ghost use Rattle.pf_model.specs.declared.Sense.TheVariants.{Rising};
+    ghost use Rattle.pf_model.specs.Network.{Network};
+    ghost use Rattle.pf_net.specs.Limits.{IsBuilt, graph_of};
+
+    ghost Value = { Network };
+
+    ghost view = { λ n. record { nodes = n.frame.nodes; source = n.s; sink = n.t; sense = Rising; low = n.lo; high = n.hi; arcs = n.arcs.items } };
+
+    ghost invariant = { λ n. IsBuilt (record { nodes = n.frame.nodes; source = n.s; sink = n.t; sense = Rising; low = n.lo; high = n.hi; arcs = n.arcs.items })
+        × (n.frame ≡ graph_of (record { nodes = n.frame.nodes; source = n.s; sink = n.t; sense = Rising; low = n.lo; high = n.hi; arcs = n.arcs.items })) };
+}
+
+// The ends of each arc.
+fn ends_of_arcs(alloc: Global, arcs: &[AffineArc]) -> Result<Vec<(u32, u32)>, NoMemory>
+    ensures { IfOk result (λ ends. ends.items ≡ map (λ arc. (arc.tail, arc.head)) arcs.now) }
+{
+    let mut ends = Vec::with_capacity(alloc, arcs.len())?;
+    'arcs: for arc in arcs {
+        ends.push((arc.tail, arc.head))?;
+    }
+    Ok(ends)
+}
+
+// The network of numbers against which there is no reason.
+fn make(
+    alloc: Global,
+    n: u32,
+    s: u32,
+    t: u32,
+    lo: Rat,
+    hi: Rat,
+    arcs: &[AffineArc],
+) -> Result<Net, NoMemory>
+    requires source { s < n }
+    requires sink { t < n }
+    requires none { refusal_of (record { nodes = n; source = s; sink = t; sense = Rising; low = lo; high = hi; arcs = arcs.now }) ≡ None }
+    ensures { IfOk result (λ net. net ≡ record { nodes = n; source = s; sink = t; sense = Rising; low = lo; high = hi; arcs = arcs.now }) }
+{
+    let (low, high) = (lo.q(), hi.q());
+    prove!(low >= 1 && high >= 1);
+    let ends = ends_of_arcs(alloc, arcs)?;
+    let frame = Frame::build(alloc, n, &ends)?;
+    let arcs = Vec::from_slice(alloc, arcs)?;
+    Ok(Net {
+        frame,
+        arcs,
+        s,
+        t,
+        lo,
+        hi,
+    })
+}
+
+impl Net {
+    /// A rising network of `n` nodes with the source `s`, the sink `t`, the interval from `lo` to `hi` and these arcs, or
+    /// the first reason against it: too big, one node as source and sink, an empty interval, and then arc by arc an end
+    /// that is no node, a slope against the rule, a capacity below 0 at an end of the interval.
+    pub fn build(
+        alloc: Global,
+        n: u32,
+        s: u32,
+        t: u32,
+        lo: Rat,
+        hi: Rat,
+        arcs: &[AffineArc],
+    ) -> Result<Net, NetBad>
+        requires two { 2 ≤ n }
+        requires source { s < n }
+        requires sink { t < n }
+        ensures given { IfOk result (λ net. net ≡ record { nodes = n; source = s; sink = t; sense = Rising; low = lo; high = hi; arcs = arcs.now }) }
+        ensures accepted { IfOk result (λ _. refusal_of (record { nodes = n; source = s; sink = t; sense = Rising; low = lo; high = hi; arcs = arcs.now }) ≡ None) }
+        ensures refused { (bad : NetBad) → result ≡ Err bad → bad ≢ NetBad.NoMemory
+            → refusal_of (record { nodes = n; source = s; sink = t; sense = Rising; low = lo; high = hi; arcs = arcs.now }) ≡ Some bad }
+    {
+        match first_refusal(n, s, t, &lo, &hi, arcs) {
+            Some(bad) => Err(bad),
+            None => match make(alloc, n, s, t, lo, hi, arcs) {
+                Ok(net) => Ok(net),
+                Err(_) => Err(NetBad::NoMemory),
+            },
+        }
+    }
+
+    /// The nodes and arcs, without capacities. What holds of every network is told here.
+    pub fn frame(&self) -> &Frame
+        ensures frame { result.now ≡ graph_of self.now }
+        ensures built { IsBuilt self.now }
+    {
+        &self.frame
+    }
+
+    pub fn source(&self) -> u32
+        ensures { result ≡ self.now.source }
+    {
+        self.s
+    }
+
+    pub fn sink(&self) -> u32
+        ensures { result ≡ self.now.sink }
+    {
+        self.t
+    }
+
+    /// The low end of the interval.
+    pub fn lo(&self) -> &Rat
+        ensures { result.now ≡ self.now.low }
+    {
+        &self.lo
+    }
+
+    /// The high end of the interval.
+    pub fn hi(&self) -> &Rat
+        ensures { result.now ≡ self.now.high }
+    {
+        &self.hi
+    }
+
+    /// The arc of the number `i`, from 0.
+    pub fn arc(&self, i: u32) -> AffineArc
+        requires { i < length self.now.arcs }
+        ensures { result ≡ get_or self.now.arcs i (record { tail = 0; head = 0; a = pos 0; b = pos 0 }) }
+    {
+        self.arcs[i as usize]
+    }
+
+    /// Writes into `caps` the capacity of each arc at a parameter `p/q` of the interval, in units of `1/q`.
+    pub fn caps_at(&self, at: &Rat, caps: &mut [i128])
+        requires inside { IsInInterval self.now at.now }
+        requires places { length caps.old ≡ length self.now.arcs }
+        ensures capacities { caps.new ≡ map (capacity_at at.now) self.now.arcs }
+        ensures bounded { IsBounded (graph_of self.now) caps.new }
+    {
+        let q = at.q();
+        prove!(q >= 1);
+        capacities(self.arcs.as_slice(), at, caps);
+    }
+
+    /// The line of a cut: the sums of `a` and of `b` over the arcs that leave it. `side` is indexed by node.
+    pub fn cut_line(&self, side: &[bool]) -> Line
+        requires { IsNetworkCut self.now side.now }
+        ensures { result ≡ record { a = cut_a self.now side.now; b = cut_b self.now side.now } }
+    {
+        line_of(self.arcs.as_slice(), side)
+    }
+}
