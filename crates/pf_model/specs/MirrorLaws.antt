@@ -1,0 +1,44 @@
+-- What the mirror of a network keeps, and what it turns round.
+use Rattle.std.specs.Prelude.{◌≡◌, ℤ, neg_ℤ, Bool, List, reverse}
+use Rattle.pf_model.specs.Fraction.{Fraction}
+use Rattle.pf_model.specs.Network.{Network, IsMonotone, IsNetworkCut, IsInInterval, network_at, cut_a, cut_b}
+use Rattle.pf_model.specs.Curve.{IsCurve, CertifiesCurve, IsPoint}
+use Rattle.pf_model.specs.Mirror.{mirror, negated, turned}
+
+-- the mirror's mirror is the network itself
+abbrev pub MirrorTwice : Type 0
+MirrorTwice = (net : Network) → mirror (mirror net) ≡ net
+
+-- the mirror of a monotone network is monotone; its sense is the other one
+abbrev pub MirrorIsMonotone : Type 0
+MirrorIsMonotone = (net : Network) → IsMonotone net → IsMonotone (mirror net)
+
+abbrev pub MirrorInterval : Type 0
+MirrorInterval = (net : Network) (x : Fraction) → IsInInterval net x → IsInInterval (mirror net) (negated x)
+
+-- at the negated parameter the capacities are the same, so the same cuts are least, and the same flows greatest
+abbrev pub MirrorCapacities : Type 0
+MirrorCapacities = (net : Network) (x : Fraction) → network_at (mirror net) (negated x) ≡ network_at net x
+
+-- the same sides are cuts; the line (A, B) becomes (A, -B)
+abbrev pub MirrorCuts : Type 0
+MirrorCuts = (net : Network) (side : List Bool) → IsNetworkCut net side → IsNetworkCut (mirror net) side
+
+abbrev pub MirrorConstants : Type 0
+MirrorConstants = (net : Network) (side : List Bool) → cut_a (mirror net) side ≡ cut_a net side
+
+abbrev pub MirrorSlopes : Type 0
+MirrorSlopes = (net : Network) (side : List Bool) → cut_b (mirror net) side ≡ neg_ℤ (cut_b net side)
+
+-- points, curves and certificates are turned round
+abbrev pub MirrorPoint : Type 0
+MirrorPoint = (net : Network) (x : Fraction) (side : List Bool) (flow : List ℤ) → IsPoint net x side flow →
+    IsPoint (mirror net) (negated x) side flow
+
+abbrev pub MirrorCurve : Type 0
+MirrorCurve = (net : Network) (points : List Fraction) (cuts : List (List Bool)) → IsCurve net points cuts →
+    IsCurve (mirror net) (turned points) (reverse cuts)
+
+abbrev pub MirrorCertificate : Type 0
+MirrorCertificate = (net : Network) (points : List Fraction) (cuts : List (List Bool)) (flows : List (List ℤ)) →
+    CertifiesCurve net points cuts flows → CertifiesCurve (mirror net) (turned points) (reverse cuts) (reverse flows)

@@ -1,0 +1,4 @@
+//! The laws of networks, flows, cuts and curves. Each is the contract of a function that does nothing, and speaks of every
+//! network, flow and cut.
+
+pub mod flows;
