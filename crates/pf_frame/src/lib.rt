@@ -137,5 +137,5 @@ impl Frame {
 mod flow;
 mod scratch;
 
-pub use flow::{reach, value};
+pub use flow::{is_flow, reach, value};
 pub use scratch::Scratch;
