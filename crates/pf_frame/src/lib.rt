@@ -135,7 +135,11 @@ impl Frame {
 }
 
 mod flow;
+mod lists;
 mod scratch;
+mod table;
 
-pub use flow::{reach, value};
+pub use flow::{is_flow, reach, value};
+pub use lists::{Numbers, Side};
 pub use scratch::Scratch;
+pub use table::FlowTable;

@@ -1,0 +1,80 @@
+// A table of numbers, row by row.
+ghost use Rattle.std.specs.Prelude.{◌≡◌, ◌<◌, IfOk, length, pos, replicate, get_or, []};
+ghost use Rattle.std.specs.Borrow.{sem};
+
+use crate::NoMemory;
+use std::alloc::Global;
+use std::marker::Model;
+
+/// Rows of whole numbers, as of flows: one row per flow, and in each row one number per arc. Contracts see the list of the rows.
+#[derive(Drop)]
+pub struct FlowTable {
+    rows: Vec<Vec<i128>>,
+}
+
+impl Model for FlowTable {
+    ghost use Rattle.std.specs.Prelude.{List, ℤ, map};
+
+    ghost Value = { List (List ℤ) };
+
+    ghost view = { λ t. map (λ row. row.items) t.rows.items };
+}
+
+impl FlowTable {
+    ghost use Rattle.std.specs.Prelude.{◌≡◌, ◌<◌, IfOk, length, pos, replicate, get_or, []};
+    ghost use Rattle.std.specs.Borrow.{sem};
+    ghost use Rattle.pf_frame.specs.Lending.{LendsRow};
+
+    /// A table of zeros.
+    pub fn make(alloc: Global, rows: usize, width: usize) -> Result<FlowTable, NoMemory>
+        ensures { IfOk result (λ table. table ≡ replicate rows (replicate width (pos 0))) }
+    {
+        let mut table = Vec::with_capacity(alloc, rows)?;
+        'rows: for _i in 0..rows {
+            table.push(vec![in alloc; 0; width]?)?;
+        }
+        Ok(FlowTable { rows: table })
+    }
+
+    pub fn rows(&self) -> usize
+        ensures { result ≡ length self.now }
+    {
+        self.rows.len()
+    }
+
+    pub fn row(&self, i: usize) -> &[i128]
+        requires { i < length self.now }
+        ensures { result.now ≡ get_or self.now i [] }
+    {
+        self.rows[i].as_slice()
+    }
+
+    /// The row, to be written. All other rows stay.
+    pub fn row_mut(&mut self, i: usize) -> &mut [i128]
+        requires { i < length self.old }
+        ensures* writes_back { sem 𝓛 (LendsRow self.entry i result) }
+        ensures value { result.now ≡ get_or self.old i [] }
+    {
+        let row = &mut self.rows[i];
+        row.as_mut_slice()
+    }
+}
+
+#[cfg(test)]
+mod tests {
+    use super::*;
+    use std::test::Fail;
+
+    #[test]
+    fn only_the_lent_row_changes(rt: HostRuntime) -> Result<(), Fail> {
+        let mut table = FlowTable::make(rt.alloc(), 3, 2)?;
+        assert_eq!(rt; table.rows(), 3);
+        let row = table.row_mut(1);
+        assert_eq!(rt; row.len(), 2);
+        row[0] = 7;
+        assert_eq!(rt; table.row(0), [0, 0].as_slice());
+        assert_eq!(rt; table.row(1), [7, 0].as_slice());
+        assert_eq!(rt; table.row(2), [0, 0].as_slice());
+        Ok(())
+    }
+}
