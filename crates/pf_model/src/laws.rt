@@ -6,3 +6,4 @@ pub mod flows;
 pub mod mirrors;
 pub mod nesting;
 pub mod parameters;
+pub mod worked;
