@@ -24,9 +24,9 @@ record Crossing (g : FlowNetwork) (flow : List ℤ) (side : List Bool) : Type 0 
   step : IsResidual g flow from to
 
 -- arc i is none, in either direction
-record NoneAt (g : FlowNetwork) (flow : List ℤ) (side : List Bool) (i : ℕ) : Type 0 where
-  on : has side (tail_at g i) ≡ true → has side (head_at g i) ≡ false → at_arc flow i <ℤ at_arc g.capacities i → ⊥
-  back : has side (head_at g i) ≡ true → has side (tail_at g i) ≡ false → pos 0 <ℤ at_arc flow i → ⊥
+pub record NoneAt (g : FlowNetwork) (flow : List ℤ) (side : List Bool) (i : ℕ) : Type 0 where
+  pub on : has side (tail_at g i) ≡ true → has side (head_at g i) ≡ false → at_arc flow i <ℤ at_arc g.capacities i → ⊥
+  pub back : has side (head_at g i) ≡ true → has side (tail_at g i) ≡ false → pos 0 <ℤ at_arc flow i → ⊥
 
 look_on : (g : FlowNetwork) (flow : List ℤ) (side : List Bool) (i : ℕ) → IsProper g → i < length g.ends →
     Crossing g flow side ⊎ (has side (tail_at g i) ≡ true → has side (head_at g i) ≡ false → at_arc flow i <ℤ at_arc g.capacities i → ⊥)
@@ -86,7 +86,7 @@ look g flow side proper (suc m) low = elim (look g flow side proper m (omega ari
   ]
 ]
 
-none_leaves : (g : FlowNetwork) (flow : List ℤ) (side : List Bool) → ((i : ℕ) → i < length g.ends → NoneAt g flow side i) → HasNoWayOut g flow side
+pub none_leaves : (g : FlowNetwork) (flow : List ℤ) (side : List Bool) → ((i : ℕ) → i < length g.ends → NoneAt g flow side i) → HasNoWayOut g flow side
 none_leaves g flow side none v w held out r = elim r.by [
   | inl o ↦ (none r.arc r.in_range).on (rw o.from held) (rw o.to out) o.room
   | inr o ↦ (none r.arc r.in_range).back (rw o.from held) (rw o.to out) o.room
@@ -101,10 +101,10 @@ stays_inside g flow side none h (suc k) w walk = elim (cases_Bool (has side w)) 
 ]
 
 -- the source reaches each node of the side
-record IsReached (g : FlowNetwork) (flow : List ℤ) (side : List Bool) : Type 0 where
-  full : length side ≡ g.nodes
-  source : has side g.source ≡ true
-  reached : (v : ℕ) → has side v ≡ true → Reaches g flow g.source v
+pub record IsReached (g : FlowNetwork) (flow : List ℤ) (side : List Bool) : Type 0 where
+  pub full : length side ≡ g.nodes
+  pub source : has side g.source ≡ true
+  pub reached : (v : ℕ) → has side v ≡ true → Reaches g flow g.source v
 
 take_in : (g : FlowNetwork) (flow : List ℤ) (side : List Bool) → IsReached g flow side → (c : Crossing g flow side) →
     IsReached g flow (set side c.to true)
@@ -117,6 +117,24 @@ take_in g flow side r c = record {
   ];
 }
 
+-- the source alone is reached
+pub source_reached : (g : FlowNetwork) (flow : List ℤ) → g.source < g.nodes → IsReached g flow (only_source_side g)
+source_reached g flow low =
+    let blank = replicate g.nodes false in
+    let full : length blank ≡ g.nodes = length-replicate g.nodes false in
+    record {
+      full = length-set blank g.source true ∙ full;
+      source = has-set_here blank g.source (omega (arith, full, low));
+      reached = λ v h. (0, sym (only_source g.nodes g.source blank refl v h));
+    }
+
+-- a reached side that nothing leaves is what the source reaches
+pub reach_when_closed : (g : FlowNetwork) (flow : List ℤ) (side : List Bool) → IsReached g flow side → HasNoWayOut g flow side → IsReach g flow side
+reach_when_closed g flow side r none = record {
+  full = r.full;
+  exact = λ v low. (r.reached v, λ walk. stays_inside g flow side none r.source walk.0 v walk.1);
+}
+
 reach_from : (g : FlowNetwork) (flow : List ℤ) → IsProper g → (k : ℕ) (side : List Bool) → IsReached g flow side → g.nodes < size side + k →
     (reach : List Bool) × IsReach g flow reach
 reach_from g flow proper zero side r h = absurd (let full = r.full in let most = size-le-length side in omega (arith, h, full, most))
@@ -126,28 +144,13 @@ reach_from g flow proper (suc k) side r h = elim (look g flow side proper (lengt
       let node = c.node in
       let more = size-set side c.to (omega (arith, full, node)) c.outside in
       reach_from g flow proper k (set side c.to true) (take_in g flow side r c) (omega (arith, h, more))
-  | inr none ↦ (
-    side,
-    record {
-      full = r.full;
-      exact = λ v low. (r.reached v, λ walk. stays_inside g flow side (none_leaves g flow side none) r.source walk.0 v walk.1);
-    },
-  )
+  | inr none ↦ (side, reach_when_closed g flow side r (none_leaves g flow side none))
 ]
 
 -- what the source reaches
 pub reach_exists : (g : FlowNetwork) (flow : List ℤ) → IsProper g → (reach : List Bool) × IsReach g flow reach
 reach_exists g flow proper =
-    let blank = replicate g.nodes false in
-    let full : length blank ≡ g.nodes = length-replicate g.nodes false in
-    let low = proper.source in
-    reach_from g flow proper (suc g.nodes) (only_source_side g)
-    (record {
-      full = length-set blank g.source true ∙ full;
-      source = has-set_here blank g.source (omega (arith, full, low));
-      reached = λ v h. (0, sym (only_source g.nodes g.source blank refl v h));
-    })
-    (omega arith)
+    reach_from g flow proper (suc g.nodes) (only_source_side g) (source_reached g flow proper.source) (omega arith)
 
 -- while the sink is reached, the flow is augmented
 greatest_from : (g : FlowNetwork) → IsProper g → (k : ℕ) (flow : List ℤ) → IsFlow g flow →

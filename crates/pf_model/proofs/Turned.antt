@@ -10,9 +10,9 @@ use Rattle.pf_model.specs.Cut.{FlowNetwork, IsLeast, IsSmallestLeast, capacity}
 use Rattle.pf_model.specs.Flow.{IsFlow, value}
 use Rattle.pf_model.specs.Residual.{IsReach}
 use Rattle.pf_model.specs.Network.{Network, IsNetworkCut, network_at, cut_b}
-use Rattle.pf_model.specs.Curve.{IsDivision, IsCurve, CertifiesCurve, SlopesFall, Nests, own_point, point_at, cut_at, flow_at}
+use Rattle.pf_model.specs.Curve.{IsDivision, IsCurve, CertifiesCurve, SlopesFall, Nests, own_point, IsPoint, point_at, cut_at, flow_at}
 use Rattle.pf_model.specs.Mirror.{negated, other_sense, mirror, turned}
-use Rattle.pf_model.proofs.Mirror.{negated_twice, below_turned, at_most_turned, equal_turned, at_mirror, slope_turned, cut_turned}
+use Rattle.pf_model.proofs.Mirror.{negated_twice, below_turned, at_most_turned, equal_turned, at_mirror, slope_turned, cut_turned, point_turned, mirror_twice}
 
 -- places in a list that was turned round
 place_turned : {X : Type 0} (xs : List X) (d : X) (i j : ℕ) → i + j + 1 ≡ length xs → get_or (reverse xs) i d ≡ get_or xs j d
@@ -178,3 +178,18 @@ certificate_turned net points cuts flows c =
           subst (IsNetworkCut (mirror net)) (sym s) (cut_turned net (cut_at cuts j) (c.cut j (omega (arith, low, long))));
       slopes = slopes_turned net cuts c.slopes;
     }
+
+-- from the mirror back to the network
+pub point_back : (net : Network) (x : Fraction) (side : List Bool) (flow : List ℤ) → IsPoint (mirror net) x side flow →
+    IsPoint net (negated x) side flow
+point_back net x side flow p = subst (λ n. IsPoint n (negated x) side flow) (mirror_twice net) (point_turned (mirror net) x side flow p)
+
+pub curve_back : (net : Network) (points : List Fraction) (cuts : List (List Bool)) → IsCurve (mirror net) points cuts →
+    IsCurve net (turned points) (reverse cuts)
+curve_back net points cuts c =
+    subst (λ n. IsCurve n (turned points) (reverse cuts)) (mirror_twice net) (curve_turned (mirror net) points cuts c)
+
+pub certificate_back : (net : Network) (points : List Fraction) (cuts : List (List Bool)) (flows : List (List ℤ)) →
+    CertifiesCurve (mirror net) points cuts flows → CertifiesCurve net (turned points) (reverse cuts) (reverse flows)
+certificate_back net points cuts flows c =
+    subst (λ n. CertifiesCurve n (turned points) (reverse cuts) (reverse flows)) (mirror_twice net) (certificate_turned (mirror net) points cuts flows c)

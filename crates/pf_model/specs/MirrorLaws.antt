@@ -42,3 +42,16 @@ MirrorCurve = (net : Network) (points : List Fraction) (cuts : List (List Bool))
 abbrev pub MirrorCertificate : Type 0
 MirrorCertificate = (net : Network) (points : List Fraction) (cuts : List (List Bool)) (flows : List (List ℤ)) →
     CertifiesCurve net points cuts flows → CertifiesCurve (mirror net) (turned points) (reverse cuts) (reverse flows)
+
+-- and back again: what holds of the mirror holds of the network, turned round
+abbrev pub PointOfMirror : Type 0
+PointOfMirror = (net : Network) (x : Fraction) (side : List Bool) (flow : List ℤ) → IsPoint (mirror net) x side flow →
+    IsPoint net (negated x) side flow
+
+abbrev pub CurveOfMirror : Type 0
+CurveOfMirror = (net : Network) (points : List Fraction) (cuts : List (List Bool)) → IsCurve (mirror net) points cuts →
+    IsCurve net (turned points) (reverse cuts)
+
+abbrev pub CertificateOfMirror : Type 0
+CertificateOfMirror = (net : Network) (points : List Fraction) (cuts : List (List Bool)) (flows : List (List ℤ)) →
+    CertifiesCurve (mirror net) points cuts flows → CertifiesCurve net (turned points) (reverse cuts) (reverse flows)

@@ -1,0 +1,31 @@
+//! The curve of a monotone network.
+
+ghost use Rattle.pf_model.specs.CurveLaws.{CertificateImpliesCurve, PointsAreInside, CurveCovers, CurveIsShort, OneCurve, OneCurveInLowestTerms, PointOfGreatest};
+
+/// What certifies a curve proves it: a few comparisons at its points stand for least cuts at every parameter.
+pub fn certificate_implies_curve()
+    ensures { CertificateImpliesCurve }
+{}
+
+/// The points of a curve lie in the interval, and for each parameter of the interval the cut between its neighbouring
+/// points is least.
+pub fn curve_covers_interval()
+    ensures points { PointsAreInside }
+    ensures covers { CurveCovers }
+{}
+
+/// A network of `n` nodes has at most `n - 2` breakpoints.
+pub fn curve_is_short()
+    ensures { CurveIsShort }
+{}
+
+/// A network has one curve: two have the same cuts and equal points, and the same points where these are in lowest terms.
+pub fn curve_is_unique()
+    ensures one { OneCurve }
+    ensures lowest { OneCurveInLowestTerms }
+{}
+
+/// A greatest flow at a parameter and what its residual graph reaches are a point of the curve.
+pub fn point_from_greatest_flow()
+    ensures { PointOfGreatest }
+{}
