@@ -123,6 +123,7 @@ at_is_right = record {
   shape = record { at = whole_shape 4 (omega arith) lowest_4; side = first_cut; flow = flow_shape 4 (omega arith) };
   parameter = refl;
   best = record {
+    parameter = omega (arith, ints);
     smallest = smallest_from_reach (network_at two (whole 4)) fours first_side (proper_at two (whole 4) two_is_monotone (inside 4 (omega arith))) flow_at_4 reach_at_4 refl;
     flow_is = flow_at_4;
     value_is = refl;
