@@ -1,20 +1,18 @@
 -- Cuts that are least part by part, each the smallest least cut somewhere, are a curve.
-use Rattle.std.proofs.Common.{◌≡◌, ℕ, zero, suc, ◌+◌, ◌-◌, ◌<◌, ◌≤◌, List, length, Bool, refl, arith, ap, sym, ◌∙◌, inl, inr, add-one}
-use Rattle.std.specs.Prelude.{ℤ, ◌<ℤ◌, ◌⊎◌}
+use Rattle.std.proofs.Common.{◌≡◌, ℕ, zero, suc, ◌+◌, ◌<◌, List, length, Bool, arith, ap, inl, inr, add-one}
 use Rattle.std.proofs.lemmas.Int.{ints}
 use Rattle.std.proofs.lemmas.Bool.{cases_lt}
-use Rattle.pf_model.specs.declared.Sense.{Sense}
 use Rattle.pf_model.specs.declared.Sense.TheVariants.{Rising, Falling}
 use Rattle.pf_model.specs.Fraction.{Fraction, IsParameter, IsBelow, IsAtMost}
 use Rattle.pf_model.specs.Cut.{FlowNetwork, IsLeast, IsSmallestLeast, IsContained}
-use Rattle.pf_model.specs.Network.{Network, IsMonotone, IsInInterval, network_at, cut_b}
-use Rattle.pf_model.specs.Curve.{IsDivision, IsCurve, own_point, point_at, cut_at}
+use Rattle.pf_model.specs.Network.{Network, IsMonotone, network_at, cut_b}
+use Rattle.pf_model.specs.Curve.{IsCurve, own_point, point_at, cut_at}
 use Rattle.pf_model.specs.CurveLaws.{IsSmallestSomewhere, HasLeastParts}
 use Rattle.pf_model.proofs.Affine.{proper_at, nested}
 use Rattle.pf_model.proofs.Nesting.{nested_falling}
 use Rattle.pf_model.proofs.Exists.{greatest_exists}
 use Rattle.pf_model.proofs.Certificate.{at_most_reflexive, at_most_trans, least_between, point_is_parameter, point_inside, nests_at}
-use Rattle.pf_model.proofs.Unique.{below_or_at_most, below_then_at_most, at_most_then_below, same_slope}
+use Rattle.pf_model.proofs.Unique.{below_or_at_most, same_slope}
 use Rattle.pf_model.proofs.Whole.{sense_cases}
 
 -- a least cut that is contained in a smallest one is smallest too
