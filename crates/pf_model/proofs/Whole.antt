@@ -109,7 +109,7 @@ short_rising net points cuts m rising c =
     let few = size_less (cut_at cuts last) net.sink (omega (arith, full, sink)) cut.without_sink in
     omega (arith, some, many, few, full)
 
-sense_cases : (sense : Sense) → (sense ≡ Rising) ⊎ (sense ≡ Falling)
+pub sense_cases : (sense : Sense) → (sense ≡ Rising) ⊎ (sense ≡ Falling)
 sense_cases Rising = inl refl
 sense_cases Falling = inr refl
 

@@ -1,5 +1,5 @@
 -- What holds of flows, cuts, residual graphs and labels in every network with fixed capacities.
-use Rattle.std.specs.Prelude.{◌≡◌, ℕ, ◌+◌, ◌*◌, ◌≤◌, ℤ, ◌-ℤ◌, ◌≤ℤ◌, Bool, List, get_or, ◌↔◌}
+use Rattle.std.specs.Prelude.{◌≡◌, ℕ, ◌+◌, ◌*◌, ◌≤◌, ℤ, ◌-ℤ◌, ◌≤ℤ◌, Bool, List, slice_index_or, ◌↔◌}
 use Rattle.pf_model.specs.Cut.{FlowNetwork, IsProper, IsCut, IsLeast, IsSmallestLeast, IsLeastValue, IsLeastSize, capacity}
 use Rattle.pf_model.specs.Flow.{IsFlow, IsPreflow, IsActive, IsGreatest, value, leaving, entering}
 use Rattle.pf_model.specs.Residual.{Reaches, IsReach, HasNoWayOut, HasValidLabels}
@@ -72,4 +72,4 @@ LabelsMakeGreatest = (g : FlowNetwork) (flow : List ℤ) (labels : List ℕ) →
 -- the label of an active node is at most 2 n - 2
 abbrev pub ActiveLabelIsBounded : Type 0
 ActiveLabelIsBounded = (g : FlowNetwork) (flow : List ℤ) (labels : List ℕ) (v : ℕ) → IsProper g → IsPreflow g flow →
-    HasValidLabels g flow labels → IsActive g flow v → get_or labels v 0 + 2 ≤ 2 * g.nodes
+    HasValidLabels g flow labels → IsActive g flow v → slice_index_or labels v 0 + 2 ≤ 2 * g.nodes
