@@ -119,7 +119,7 @@ reduced x g h d =
     omega (arith, ints, most, nothing, e, eq, h))) in
     record {
       parameter = parameter;
-      lowest = rw (ap', aq') alone;
+      lowest = record { alone = rw (ap', aq') alone };
       equal =
           ap (λ n. p' *ℤ n) (sym eq) ∙ ap (λ n. p' *ℤ n) (mul_comm q' (pos g)) ∙ sym (mul_assoc p' (pos g) q') ∙ ap (λ n. n *ℤ q') ep;
       p_size = rw ap' dp;
@@ -149,8 +149,8 @@ same_fraction x y px py lx ly e =
     sym (unsigned_abs-mul x.p y.q) ∙ ap nat_abs e ∙ unsigned_abs-mul y.p x.q in
     let x_some : 0 < nat_abs x.q = omega (arith, ints, px) in
     let y_some : 0 < nat_abs y.q = omega (arith, ints, py) in
-    let one = divides_other (nat_abs x.p) (nat_abs x.q) (nat_abs y.p) (nat_abs y.q) y_some (gcd_from_lowest (nat_abs x.p) (nat_abs x.q) lx) f in
-    let other = divides_other (nat_abs y.p) (nat_abs y.q) (nat_abs x.p) (nat_abs x.q) x_some (gcd_from_lowest (nat_abs y.p) (nat_abs y.q) ly) (sym f) in
+    let one = divides_other (nat_abs x.p) (nat_abs x.q) (nat_abs y.p) (nat_abs y.q) y_some (gcd_from_lowest (nat_abs x.p) (nat_abs x.q) lx.alone) f in
+    let other = divides_other (nat_abs y.p) (nat_abs y.q) (nat_abs x.p) (nat_abs x.q) x_some (gcd_from_lowest (nat_abs y.p) (nat_abs y.q) ly.alone) (sym f) in
     let q_same : nat_abs x.q ≡ nat_abs y.q = dvd_antisymm one other in
     let q_is : x.q ≡ y.q = omega (arith, ints, px, py, q_same) in
     let low : pos 0 <ℤ y.q = omega (arith, ints, py) in
