@@ -1,0 +1,335 @@
+-- A text of the kind `par` that is accepted gives a monotone network within the limits of texts.
+use Rattle.std.proofs.Common.{◌≡◌, ℕ, ◌+◌, ◌<◌, ◌≤◌, Bool, true, false, not, ◌||◌, List, [], ◌∷◌, ◌++◌, length, Option, Some, None, Result, Ok, refl, sym, ap, subst, ◌∙◌, arith, length-append}
+use Rattle.std.specs.Prelude.{◌≢◌, ℤ, pos, neg_ℤ, ◌≤ℤ◌, int_lt, is_some, All, IfSome}
+use Rattle.std.proofs.lemmas.Bool.{eq-eqb, eqb-false}
+use Rattle.std.proofs.lemmas.Int.{ints}
+use Rattle.std.proofs.lemmas.List.Elements.{All-nil, All-cons, All-append}
+use Rattle.pf_model.specs.declared.AffineArc.{AffineArc}
+use Rattle.pf_model.specs.declared.Sense.TheVariants.{Rising}
+use Rattle.pf_model.specs.Fraction.{IsBelow, is_below}
+use Rattle.pf_model.specs.Network.{Network, IsMonotone, capacity_at, keeps_slope}
+use Rattle.pf_model.proofs.Lowest.{below_test, lowest_is}
+use Rattle.pf_text.specs.declared.RuleKind.{RuleKind}
+use Rattle.pf_text.specs.Kinds.{State}
+use Rattle.pf_text.specs.Par.{ParameterInterval, Given, par, par_header, billion, node_count, arc_count, node_index, broken_if, is_given, fraction, interval_form, interval_rules, source_form, source_rules, sink_form, sink_rules, arc_form, arc_rules, arc_rules_by, network_by}
+use Rattle.pf_text.specs.Laws.{IsTextFraction, IsTextArc, IsTextNetwork, AcceptedIsMonotone, AcceptedIsTextNetwork}
+use Rattle.pf_text.proofs.KindsLaw.{Fits, Keeps, IsInvariant, problem_claims}
+
+-- ---- what was given
+
+record IsTextInterval (interval : ParameterInterval) : Type 0 where
+  pub low : IsTextFraction interval.low
+  pub high : IsTextFraction interval.high
+  pub below : IsBelow interval.low interval.high
+
+-- what holds of an arc between n nodes, where all is given that its rules need
+record IsGoodArc (n : ℕ) (interval : ParameterInterval) (s t : ℕ) (arc : AffineArc) : Type 0 where
+  pub tail : arc.tail < n
+  pub head : arc.head < n
+  pub bounds : IsTextArc arc
+  pub slope : keeps_slope Rising s t arc ≡ true
+  pub low : pos 0 ≤ℤ capacity_at interval.low arc
+  pub high : pos 0 ≤ℤ capacity_at interval.high arc
+
+abbrev IsGivenArc : ℕ → Option ParameterInterval → Option ℕ → Option ℕ → AffineArc → Type 0
+IsGivenArc n (Some interval) (Some s) (Some t) arc = IsGoodArc n interval s t arc
+IsGivenArc n _ _ _ arc = ⊥
+
+abbrev AreApart : Option ℕ → Option ℕ → Type 0
+AreApart (Some s) (Some t) = s ≢ t
+AreApart _ _ = Unit {0}
+
+record IsGoodGiven (n : ℕ) (given : Given) : Type 0 where
+  pub interval : IfSome given.interval IsTextInterval
+  pub source : IfSome given.source (λ s. s < n)
+  pub sink : IfSome given.sink (λ t. t < n)
+  pub apart : AreApart given.source given.sink
+  pub arcs : All (IsGivenArc n given.interval given.source given.sink) given.arcs
+
+record IsGoodState (state : State Given) : Type 0 where
+  pub header : Fits par_header state.header_numbers
+  pub given : IsGoodGiven (node_count state.header_numbers) state.given
+  pub count : length state.given.arcs ≡ state.counted_lines
+  pub few : state.counted_lines ≤ arc_count state.header_numbers
+
+-- ---- small facts
+
+broken_ok : {X : Type 0} (test : Bool) (rule : RuleKind) (next : Result X RuleKind) (x : X) → broken_if test rule next ≡ Ok x → (test ≡ false) × (next ≡ Ok x)
+broken_ok true rule next x e = absurd cc
+broken_ok false rule next x e = (refl, e)
+
+not_false : (b : Bool) → not b ≡ false → b ≡ true
+not_false true e = refl
+not_false false e = absurd cc
+
+none_of : {X : Type 0} (o : Option X) → is_some o ≡ false → o ≡ None
+none_of None e = refl
+none_of (Some x) e = absurd cc
+
+both_false : (a b : Bool) → (a || b) ≡ false → (a ≡ false) × (b ≡ false)
+both_false true b e = absurd cc
+both_false false b e = (refl, e)
+
+not_below : (z : ℤ) → int_lt z (pos 0) ≡ false → pos 0 ≤ℤ z
+not_below z e = omega (arith, ints, e)
+
+fraction_is : (p q : ℤ) → neg_ℤ (pos billion) ≤ℤ p → p ≤ℤ pos billion → pos 1 ≤ℤ q → q ≤ℤ pos billion → IsTextFraction (fraction p q)
+fraction_is p q p_low p_high q_low q_high =
+    let l = lowest_is (record { p = p; q = q }) q_low in
+    let p_size = l.p_size in
+    let q_size = l.q_size in
+    let some = l.parameter in
+    record {
+      low = omega (arith, ints, p_size);
+      high = omega (arith, ints, p_size);
+      parameter = l.parameter;
+      denominator = omega (arith, ints, q_size, some);
+      lowest = l.lowest;
+    }
+
+index_below : (v : ℤ) (n : ℕ) → pos 1 ≤ℤ v → v ≤ℤ pos n → node_index v < n
+index_below v n low high = omega (arith, ints, low, high)
+
+-- where something was not given there is no arc
+no_arc : (P Q : AffineArc → Type 0) (arcs : List AffineArc) → ((arc : AffineArc) → P arc → ⊥) → All P arcs → All Q arcs
+no_arc P Q arcs none all = λ k d lt. absurd (none _ (all k d lt))
+
+no_interval : (n : ℕ) (source sink : Option ℕ) (arc : AffineArc) → IsGivenArc n None source sink arc → ⊥
+no_interval n source sink arc h = h
+
+no_source : (n : ℕ) (interval : Option ParameterInterval) (sink : Option ℕ) (arc : AffineArc) → IsGivenArc n interval None sink arc → ⊥
+no_source n None sink arc h = h
+no_source n (Some interval) sink arc h = h
+
+no_sink : (n : ℕ) (interval : Option ParameterInterval) (source : Option ℕ) (arc : AffineArc) → IsGivenArc n interval source None arc → ⊥
+no_sink n None source arc h = h
+no_sink n (Some interval) None arc h = h
+no_sink n (Some interval) (Some s) arc h = h
+
+-- ---- the lines
+
+interval_kept : (n : ℕ) (given next : Given) (lp lq hp hq : ℤ) → IsGoodGiven n given → IsTextFraction (fraction lp lq) → IsTextFraction (fraction hp hq)
+    → interval_rules (lp ∷ lq ∷ hp ∷ hq ∷ []) given ≡ Ok next → IsGoodGiven n next × (next.arcs ≡ given.arcs)
+interval_kept n given next lp lq hp hq good low high e =
+    let a = broken_ok (is_some given.interval) _ _ next e in
+    let b = broken_ok (not (is_below (fraction lp lq) (fraction hp hq))) _ _ next a.1 in
+    let below = (below_test (fraction lp lq) (fraction hp hq)).0 (not_false _ b.0) in
+    let interval : ParameterInterval = record { low = fraction lp lq; high = fraction hp hq } in
+    let same : record given { interval = Some interval } ≡ next = (let e' = b.1 in cc) in
+    let none = none_of given.interval a.0 in
+    let good_next : IsGoodGiven n (record given { interval = Some interval }) = record {
+      interval = record { low = low; high = high; below = below };
+      source = good.source;
+      sink = good.sink;
+      apart = good.apart;
+      arcs = no_arc (IsGivenArc n None given.source given.sink) (IsGivenArc n (Some interval) given.source given.sink) given.arcs (no_interval n given.source given.sink)
+          (subst (λ (o : Option ParameterInterval). All (IsGivenArc n o given.source given.sink) given.arcs) none good.arcs);
+    } in
+    (subst (IsGoodGiven n) same good_next, ap (λ (g : Given). g.arcs) (sym same))
+
+apart_from_test : (o : Option ℕ) (v : ℕ) → is_given o v ≡ false → AreApart (Some v) o
+apart_from_test (Some w) v e = λ same. absurd (let t = eq-eqb w v (sym same) in cc)
+apart_from_test None v e = tt
+
+apart_turned : (o : Option ℕ) (v : ℕ) → is_given o v ≡ false → AreApart o (Some v)
+apart_turned (Some w) v e = λ same. absurd (let t = eq-eqb w v same in cc)
+apart_turned None v e = tt
+
+source_kept : (n : ℕ) (given next : Given) (v : ℤ) → IsGoodGiven n given → node_index v < n
+    → source_rules (v ∷ []) given ≡ Ok next → IsGoodGiven n next × (next.arcs ≡ given.arcs)
+source_kept n given next v good small e =
+    let a = broken_ok (is_some given.source) _ _ next e in
+    let b = broken_ok (is_given given.sink (node_index v)) _ _ next a.1 in
+    let same : record given { source = Some (node_index v) } ≡ next = (let e' = b.1 in cc) in
+    let none = none_of given.source a.0 in
+    let good_next : IsGoodGiven n (record given { source = Some (node_index v) }) = record {
+      interval = good.interval;
+      source = small;
+      sink = good.sink;
+      apart = apart_from_test given.sink (node_index v) b.0;
+      arcs = no_arc (IsGivenArc n given.interval None given.sink) (IsGivenArc n given.interval (Some (node_index v)) given.sink) given.arcs (no_source n given.interval given.sink)
+          (subst (λ (o : Option ℕ). All (IsGivenArc n given.interval o given.sink) given.arcs) none good.arcs);
+    } in
+    (subst (IsGoodGiven n) same good_next, ap (λ (g : Given). g.arcs) (sym same))
+
+sink_kept : (n : ℕ) (given next : Given) (v : ℤ) → IsGoodGiven n given → node_index v < n
+    → sink_rules (v ∷ []) given ≡ Ok next → IsGoodGiven n next × (next.arcs ≡ given.arcs)
+sink_kept n given next v good small e =
+    let a = broken_ok (is_some given.sink) _ _ next e in
+    let b = broken_ok (is_given given.source (node_index v)) _ _ next a.1 in
+    let same : record given { sink = Some (node_index v) } ≡ next = (let e' = b.1 in cc) in
+    let none = none_of given.sink a.0 in
+    let good_next : IsGoodGiven n (record given { sink = Some (node_index v) }) = record {
+      interval = good.interval;
+      source = good.source;
+      sink = small;
+      apart = apart_turned given.source (node_index v) b.0;
+      arcs = no_arc (IsGivenArc n given.interval given.source None) (IsGivenArc n given.interval given.source (Some (node_index v))) given.arcs (no_sink n given.interval given.source)
+          (subst (λ (o : Option ℕ). All (IsGivenArc n given.interval given.source o) given.arcs) none good.arcs);
+    } in
+    (subst (IsGoodGiven n) same good_next, ap (λ (g : Given). g.arcs) (sym same))
+
+record IsArcGiven (n : ℕ) (interval : Option ParameterInterval) (source sink : Option ℕ) (arc : AffineArc) (given next : Given) : Type 0 where
+  pub good : IsGivenArc n interval source sink arc
+  pub same : next ≡ record given { arcs = given.arcs ++ arc ∷ [] }
+
+arc_given : (n : ℕ) (interval : Option ParameterInterval) (source sink : Option ℕ) (arc : AffineArc) (given next : Given) → arc.tail < n → arc.head < n → IsTextArc arc
+    → arc_rules_by interval source sink arc given ≡ Ok next → IsArcGiven n interval source sink arc given next
+arc_given n (Some interval) (Some s) (Some t) arc given next tail head bounds e =
+    let a = broken_ok (not (keeps_slope Rising s t arc)) _ _ next e in
+    let b = broken_ok (int_lt (capacity_at interval.low arc) (pos 0) || int_lt (capacity_at interval.high arc) (pos 0)) _ _ next a.1 in
+    let c = both_false _ _ b.0 in
+    record {
+      good = record { tail = tail; head = head; bounds = bounds; slope = not_false _ a.0; low = not_below _ c.0; high = not_below _ c.1 };
+      same = (let e' = b.1 in cc);
+    }
+arc_given n (Some interval) (Some s) None arc given next tail head bounds e = absurd cc
+arc_given n (Some interval) None sink arc given next tail head bounds e = absurd cc
+arc_given n None source sink arc given next tail head bounds e = absurd cc
+
+arc_kept : (n : ℕ) (given next : Given) (u v a b : ℤ) → IsGoodGiven n given → node_index u < n → node_index v < n
+    → IsTextArc (record { tail = node_index u; head = node_index v; a = a; b = b })
+    → arc_rules (u ∷ v ∷ a ∷ b ∷ []) given ≡ Ok next → IsGoodGiven n next × (length next.arcs ≡ length given.arcs + 1)
+arc_kept n given next u v a b good tail head bounds e =
+    let arc : AffineArc = record { tail = node_index u; head = node_index v; a = a; b = b } in
+    let is = arc_given n given.interval given.source given.sink arc given next tail head bounds e in
+    let P : AffineArc → Type 0 = IsGivenArc n given.interval given.source given.sink in
+    let good_next : IsGoodGiven n (record given { arcs = given.arcs ++ arc ∷ [] }) = record {
+      interval = good.interval;
+      source = good.source;
+      sink = good.sink;
+      apart = good.apart;
+      arcs = All-append P given.arcs (arc ∷ []) good.arcs (All-cons P arc [] is.good (All-nil P));
+    } in
+    let more : length (given.arcs ++ arc ∷ []) ≡ length given.arcs + 1 = length-append given.arcs (arc ∷ []) in
+    (subst (IsGoodGiven n) (sym is.same) good_next, ap (λ (g : Given). length g.arcs) is.same ∙ more)
+
+-- ---- the states
+
+-- a line that is not counted, and gives no arc
+uncounted : (state : State Given) (next : Given) → IsGoodState state → IsGoodGiven (node_count state.header_numbers) next × (next.arcs ≡ state.given.arcs)
+    → IsGoodState (record { header_numbers = state.header_numbers; counted_lines = state.counted_lines; given = next })
+uncounted state next good is = record { header = good.header; given = is.0; count = ap length is.1 ∙ good.count; few = good.few }
+
+interval_line : (numbers : List ℤ) (state : State Given) → IsGoodState state → Fits interval_form.patterns numbers → Keeps par IsGoodState state interval_form numbers
+interval_line [] state good fit = absurd fit
+interval_line (lp ∷ []) state good fit = absurd fit.2
+interval_line (lp ∷ lq ∷ []) state good fit = absurd fit.2.2
+interval_line (lp ∷ lq ∷ hp ∷ []) state good fit = absurd fit.2.2.2
+interval_line (lp ∷ lq ∷ hp ∷ hq ∷ []) state good fit = λ place next e.
+    uncounted state next good
+    (interval_kept (node_count state.header_numbers) state.given next lp lq hp hq good.given
+    (fraction_is lp lq fit.0 fit.1 fit.2.0 fit.2.1) (fraction_is hp hq fit.2.2.0 fit.2.2.1 fit.2.2.2.0 fit.2.2.2.1) e)
+interval_line (lp ∷ lq ∷ hp ∷ hq ∷ n ∷ numbers) state good fit = absurd fit.2.2.2.2
+
+source_line : (numbers : List ℤ) (state : State Given) → IsGoodState state → Fits (source_form state.header_numbers).patterns numbers → Keeps par IsGoodState state (source_form state.header_numbers) numbers
+source_line [] state good fit = absurd fit
+source_line (v ∷ []) state good fit = λ place next e.
+    uncounted state next good (source_kept (node_count state.header_numbers) state.given next v good.given (index_below v (node_count state.header_numbers) fit.0 fit.1) e)
+source_line (v ∷ n ∷ numbers) state good fit = absurd fit.2
+
+sink_line : (numbers : List ℤ) (state : State Given) → IsGoodState state → Fits (sink_form state.header_numbers).patterns numbers → Keeps par IsGoodState state (sink_form state.header_numbers) numbers
+sink_line [] state good fit = absurd fit
+sink_line (v ∷ []) state good fit = λ place next e.
+    uncounted state next good (sink_kept (node_count state.header_numbers) state.given next v good.given (index_below v (node_count state.header_numbers) fit.0 fit.1) e)
+sink_line (v ∷ n ∷ numbers) state good fit = absurd fit.2
+
+arc_line : (numbers : List ℤ) (state : State Given) → IsGoodState state → Fits (arc_form state.header_numbers).patterns numbers → Keeps par IsGoodState state (arc_form state.header_numbers) numbers
+unfolding par
+arc_line [] state good fit = absurd fit
+arc_line (u ∷ []) state good fit = absurd fit.2
+arc_line (u ∷ v ∷ []) state good fit = absurd fit.2.2
+arc_line (u ∷ v ∷ a ∷ []) state good fit = absurd fit.2.2.2
+arc_line (u ∷ v ∷ a ∷ b ∷ []) state good fit = λ place next e.
+    let n = node_count state.header_numbers in
+    let kept = arc_kept n state.given next u v a b good.given (index_below u n fit.0 fit.1) (index_below v n fit.2.0 fit.2.1)
+    (record { a_low = fit.2.2.0; a_high = fit.2.2.1; b_low = fit.2.2.2.0; b_high = fit.2.2.2.1 }) e in
+    let differ = eqb-false state.counted_lines (arc_count state.header_numbers) place in
+    record {
+      header = good.header;
+      given = kept.0;
+      count = kept.1 ∙ ap (λ m. m + 1) good.count;
+      few = (let few = good.few in omega (arith, few, differ));
+    }
+arc_line (u ∷ v ∷ a ∷ b ∷ n ∷ numbers) state good fit = absurd fit.2.2.2.2
+
+abbrev IsGoodNetwork : Network → Type 0
+IsGoodNetwork net = IsMonotone net × IsTextNetwork net
+
+header_begins : (numbers : List ℤ) → Fits par_header numbers → IsGoodState (record { header_numbers = numbers; counted_lines = 0; given = record { interval = None; source = None; sink = None; arcs = [] } })
+header_begins numbers fit = record {
+  header = fit;
+  given = record { interval = tt; source = tt; sink = tt; apart = tt; arcs = All-nil (IsGivenArc (node_count numbers) None None None) };
+  count = refl;
+  few = omega arith;
+}
+
+record IsGoodHeader (numbers : List ℤ) : Type 0 where
+  pub nodes_low : 2 ≤ node_count numbers
+  pub nodes_high : node_count numbers ≤ 1000
+  pub arcs : arc_count numbers ≤ 10000
+
+header_numbers : (numbers : List ℤ) → Fits par_header numbers → IsGoodHeader numbers
+header_numbers [] fit = absurd fit
+header_numbers (n ∷ []) fit = absurd fit.2
+header_numbers (n ∷ m ∷ []) fit =
+    let n_low = fit.0 in
+    let n_high = fit.1 in
+    let m_low = fit.2.0 in
+    let m_high = fit.2.1 in
+    record { nodes_low = omega (arith, ints, n_low, n_high); nodes_high = omega (arith, ints, n_low, n_high); arcs = omega (arith, ints, m_low, m_high) }
+header_numbers (n ∷ m ∷ k ∷ numbers) fit = absurd fit.2.2
+
+-- a network of good parts
+network_is : (n : ℕ) (o : Option ParameterInterval) (source sink : Option ℕ) (arcs : List AffineArc) (net : Network) → 2 ≤ n → n ≤ 1000 → length arcs ≤ 10000
+    → IfSome o IsTextInterval → IfSome source (λ s. s < n) → IfSome sink (λ t. t < n) → AreApart source sink → All (IsGivenArc n o source sink) arcs
+    → network_by n o source sink arcs ≡ Ok net → IsGoodNetwork net
+network_is n (Some interval) (Some s) (Some t) arcs net nodes_low nodes_high few good_interval source sink apart good e =
+    let made : Network = record { nodes = n; source = s; sink = t; sense = Rising; low = interval.low; high = interval.high; arcs = arcs } in
+    let same : made ≡ net = cc in
+    let monotone : IsMonotone made = record {
+      source = source;
+      sink = sink;
+      apart = apart;
+      low = good_interval.low.parameter;
+      high = good_interval.high.parameter;
+      interval = good_interval.below;
+      each = λ k d lt. let arc = good k d lt in record { tail = arc.tail; head = arc.head; slope = arc.slope; low = arc.low; high = arc.high };
+    } in
+    let bounds : IsTextNetwork made = record {
+      nodes_low = nodes_low;
+      nodes_high = nodes_high;
+      arc_count = few;
+      low = good_interval.low;
+      high = good_interval.high;
+      arcs = λ k d lt. let arc = good k d lt in arc.bounds;
+    } in
+    subst IsGoodNetwork same (monotone, bounds)
+network_is n (Some interval) (Some s) None arcs net nodes_low nodes_high few good_interval source sink apart good e = absurd cc
+network_is n (Some interval) None sink arcs net nodes_low nodes_high few good_interval source good_sink apart good e = absurd cc
+network_is n None source sink arcs net nodes_low nodes_high few good_interval good_source good_sink apart good e = absurd cc
+
+end_is : (state : State Given) (net : Network) → IsGoodState state
+    → network_by (node_count state.header_numbers) state.given.interval state.given.source state.given.sink state.given.arcs ≡ Ok net → IsGoodNetwork net
+end_is state net good e =
+    let h = header_numbers state.header_numbers good.header in
+    let count = good.count in
+    let few = good.few in
+    let arcs = h.arcs in
+    let given = good.given in
+    network_is (node_count state.header_numbers) state.given.interval state.given.source state.given.sink state.given.arcs net h.nodes_low h.nodes_high
+    (omega (arith, count, few, arcs)) given.interval given.source given.sink given.apart given.arcs e
+
+par_invariant : IsInvariant par IsGoodState IsGoodNetwork
+unfolding par
+par_invariant = record {
+  begins = header_begins;
+  kept = λ state good. (λ numbers. interval_line numbers state good, (λ numbers. source_line numbers state good, (λ numbers. sink_line numbers state good, (λ numbers. arc_line numbers state good, tt))));
+  ends = λ state net good all. end_is state net good;
+}
+
+pub accepted_is_monotone : AcceptedIsMonotone
+accepted_is_monotone text read e = (problem_claims par IsGoodState IsGoodNetwork text read par_invariant e).0
+
+pub accepted_is_text_network : AcceptedIsTextNetwork
+accepted_is_text_network text read e = (problem_claims par IsGoodState IsGoodNetwork text read par_invariant e).1

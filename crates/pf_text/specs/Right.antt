@@ -1,0 +1,75 @@
+-- Which texts are right answers to what was asked.
+use Rattle.std.specs.Prelude.{◌≡◌, ◌↔◌, ℕ, ◌+◌, ◌<◌, Bool, true, List, length, get_or, pos, ◌+ℤ◌, ◌-ℤ◌, ◌*ℤ◌}
+use Rattle.pf_model.specs.Fraction.{Fraction, lowest}
+use Rattle.pf_model.specs.Cut.{IsLeastValue, IsLeastSize}
+use Rattle.pf_model.specs.Network.{Network, network_at}
+use Rattle.pf_model.specs.Curve.{IsPoint, IsCurve, CertifiesCurve}
+use Rattle.pf_model.specs.Answer.{Point, Curve, Row, IsPointShape, IsCurveShape, IsRowShape}
+use Rattle.pf_text.specs.Answers.{point_text, curve_text, sweep_text, verdict_text}
+use Rattle.pf_text.specs.Asked.{Command, at, Problem, network}
+
+-- `at`: the smallest least cut at the parameter, in lowest terms, and a flow whose value is its capacity
+pub record IsRightPoint (x : Fraction) (net : Network) (text : List ℕ) : Type 0 where
+  pub point : Point
+  pub shape : IsPointShape net point
+  pub parameter : point.at ≡ lowest x
+  pub best : IsPoint net point.at point.side point.flow
+  pub text_is : text ≡ point_text net point
+
+-- `curve`: the whole least-cut function, with flows that certify it
+pub record IsRightCurve (net : Network) (text : List ℕ) : Type 0 where
+  pub curve : Curve
+  pub shape : IsCurveShape net curve
+  pub best : IsCurve net curve.points curve.cuts
+  pub certificate : CertifiesCurve net curve.points curve.cuts curve.flows
+  pub text_is : text ≡ curve_text net curve
+
+-- the parameter L + (H - L) j / k of the interval from L to H, in lowest terms
+abbrev pub sweep_parameter : Network → ℕ → ℕ → Fraction
+sweep_parameter net k j =
+    let low = net.low.p *ℤ net.high.q in
+    let high = net.high.p *ℤ net.low.q in
+    lowest (record { p = (low *ℤ pos k) +ℤ ((high -ℤ low) *ℤ pos j); q = (net.low.q *ℤ net.high.q) *ℤ pos k })
+
+-- the least value and the least size at this parameter
+pub record IsRightRow (net : Network) (x : Fraction) (row : Row) : Type 0 where
+  pub shape : IsRowShape row
+  pub parameter : row.at ≡ x
+  pub value : IsLeastValue (network_at net row.at) row.value
+  pub size : IsLeastSize (network_at net row.at) row.size
+
+-- row j, and past the last row one of the low end
+abbrev pub row_at : Network → List Row → ℕ → Row
+row_at net rows j = get_or rows j (record { at = net.low; value = pos 0; size = 0 })
+
+-- `sweep`: a row at each end of k equal steps through the interval
+pub record IsRightSweep (k : ℕ) (net : Network) (text : List ℕ) : Type 0 where
+  pub rows : List Row
+  pub count : length rows ≡ k + 1
+  pub each : (j : ℕ) → j < length rows → IsRightRow net (sweep_parameter net k j) (row_at net rows j)
+  pub text_is : text ≡ sweep_text rows
+
+-- a claim, and a text that says `yes` exactly where the claim holds and `no` elsewhere
+pub record IsRightVerdict (claim : Type 0) (text : List ℕ) : Type 0 where
+  pub verdict : Bool
+  pub exact : (verdict ≡ true) ↔ claim
+  pub text_is : text ≡ verdict_text verdict
+
+-- the text is that of a curve of the right shape whose certificate holds
+pub record IsCertifiedCurve (net : Network) (text : List ℕ) : Type 0 where
+  pub curve : Curve
+  pub shape : IsCurveShape net curve
+  pub certificate : CertifiesCurve net curve.points curve.cuts curve.flows
+  pub text_is : text ≡ curve_text net curve
+
+-- `check curve`: whether the text behind the problem is that of a certified curve
+abbrev pub IsRightCheck : Network → List ℕ → List ℕ → Type 0
+IsRightCheck net rest text = IsRightVerdict (IsCertifiedCurve net rest) text
+
+-- The text is that of a right answer to the command for this problem, with this text behind it.
+abbrev pub IsRight : Command → Problem → List ℕ → List ℕ → Type 0
+IsRight (at x) (network net) rest text = IsRightPoint x net text
+
+-- the command asks for a verdict, and the text is that of `no`
+abbrev pub SaysNo : Command → List ℕ → Type 0
+SaysNo (at x) text = ⊥
