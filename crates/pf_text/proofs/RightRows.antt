@@ -1,0 +1,278 @@
+-- Right answers on a worked network: the texts of its least cuts, of its whole least-cut function, of a sweep and of a verdict.
+use Rattle.std.proofs.Common.{◌≡◌, ℕ, zero, suc, ◌+◌, ◌<◌, ◌^◌, List, [], ◌∷◌, map, Bool, true, false, refl, arith, inl}
+use Rattle.std.specs.Prelude.{ℤ, pos, ◌≤ℤ◌, ◌<ℤ◌, codes}
+use Rattle.std.specs.Fmt.{digits}
+use Rattle.std.proofs.lemmas.Int.{ints}
+use Rattle.std.proofs.lemmas.List.Elements.{All-nil, All-cons}
+use Rattle.pf_model.specs.Fraction.{Fraction, IsParameter, IsBelow, IsLowest, lowest}
+use Rattle.pf_model.specs.Cut.{FlowNetwork, IsProper, IsCut, IsSmallestLeast, has, capacity}
+use Rattle.pf_model.specs.Flow.{IsFlow, value}
+use Rattle.pf_model.specs.Residual.{Reaches, IsReach}
+use Rattle.pf_model.specs.Network.{IsMonotone, IsNetworkCut, IsInInterval, network_at, cut_b}
+use Rattle.pf_model.specs.Curve.{IsDivision, CertifiesCurve, Meets, point_at, cut_at, flow_at}
+use Rattle.pf_model.specs.Answer.{Curve, Row, IsWithinSize, IsFractionShape, IsFlowShape, IsCurveShape}
+use Rattle.pf_model.proofs.Affine.{proper_at}
+use Rattle.pf_model.proofs.Certificate.{certified_is_curve}
+use Rattle.pf_model.proofs.Duality.{tight_from_value, stays, smallest_from_reach}
+use Rattle.pf_model.proofs.FlowTest.{flow_from_test}
+use Rattle.pf_model.proofs.Lowest.{lowest_is}
+use Rattle.pf_text.specs.Answers.{point_text, curve_text, sweep_text, verdict_text}
+use Rattle.pf_text.specs.Asked.{at, network}
+use Rattle.pf_text.specs.Right.{sweep_parameter, row_at, IsRightCurve, IsRightRow, IsRightSweep, IsRightCheck, IsRight}
+use Rattle.pf_text.proofs.ParLaw.{accepted_is_monotone}
+use Rattle.pf_text.proofs.Rows.{text, two_lines, two, two_is_read}
+
+two_is_monotone : IsMonotone two
+two_is_monotone = accepted_is_monotone (text two_lines) (record { problem = two; rest = []; line = 7 }) two_is_read
+
+abbrev whole : ℕ → Fraction
+whole p = record { p = pos p; q = pos 1 }
+
+abbrev first_side : List Bool
+first_side = true ∷ false ∷ false ∷ []
+
+abbrev second_side : List Bool
+second_side = true ∷ true ∷ false ∷ []
+
+abbrev fours : List ℤ
+fours = pos 4 ∷ pos 4 ∷ []
+
+abbrev zeros : List ℤ
+zeros = pos 0 ∷ pos 0 ∷ []
+
+-- a side whose capacity is the flow's value, and that the source reaches
+reach_by : (g : FlowNetwork) (flow : List ℤ) (side : List Bool) → IsProper g → IsFlow g flow → IsCut g side → capacity g side ≤ℤ value g flow
+    → ((v : ℕ) → has side v ≡ true → Reaches g flow g.source v) → IsReach g flow side
+reach_by g flow side proper f c most reached = record {
+  full = c.full;
+  exact = λ v low. (reached v, λ walk. stays g flow side (tight_from_value g flow side proper f c most) c.with_source walk.0 v walk.1);
+}
+
+inside : (p : ℕ) → p < 11 → IsInInterval two (whole p)
+inside p small = record { parameter = omega (arith, ints); low = omega (arith, ints); high = omega (arith, ints) }
+
+first_cut : IsNetworkCut two first_side
+first_cut = record { full = refl; with_source = refl; without_sink = refl }
+
+second_cut : IsNetworkCut two second_side
+second_cut = record { full = refl; with_source = refl; without_sink = refl }
+
+flow_at_0 : IsFlow (network_at two (whole 0)) zeros
+flow_at_0 = flow_from_test _ _ refl
+
+flow_at_4 : IsFlow (network_at two (whole 4)) fours
+flow_at_4 = flow_from_test _ _ refl
+
+flow_at_10 : IsFlow (network_at two (whole 10)) fours
+flow_at_10 = flow_from_test _ _ refl
+
+reached_at_4 : (v : ℕ) → has first_side v ≡ true → Reaches (network_at two (whole 4)) fours 0 v
+reached_at_4 zero h = (0, refl)
+reached_at_4 (suc zero) h = absurd cc
+reached_at_4 (suc (suc zero)) h = absurd cc
+reached_at_4 (suc (suc (suc v))) h = absurd cc
+
+-- at 10 the first arc can carry more
+reached_at_10 : (v : ℕ) → has second_side v ≡ true → Reaches (network_at two (whole 10)) fours 0 v
+reached_at_10 zero h = (0, refl)
+reached_at_10 (suc zero) h = (1, (0, refl, record { arc = 0; in_range = omega arith; by = inl (record { from = refl; to = refl; room = omega (arith, ints) }) }))
+reached_at_10 (suc (suc zero)) h = absurd cc
+reached_at_10 (suc (suc (suc v))) h = absurd cc
+
+reach_at_4 : IsReach (network_at two (whole 4)) fours first_side
+reach_at_4 = reach_by (network_at two (whole 4)) fours first_side (proper_at two (whole 4) two_is_monotone (inside 4 (omega arith))) flow_at_4
+    (record { full = refl; with_source = refl; without_sink = refl }) (omega (arith, ints)) reached_at_4
+
+reach_at_10 : IsReach (network_at two (whole 10)) fours second_side
+reach_at_10 = reach_by (network_at two (whole 10)) fours second_side (proper_at two (whole 10) two_is_monotone (inside 10 (omega arith))) flow_at_10
+    (record { full = refl; with_source = refl; without_sink = refl }) (omega (arith, ints)) reached_at_10
+
+-- ---- shapes
+
+whole_shape : (p : ℕ) → p < 11 → IsLowest (whole p) → IsFractionShape (whole p)
+whole_shape p small alone = record { low = omega (arith, ints); high = omega (arith, ints); parameter = omega (arith, ints); denominator = omega (arith, ints); lowest = alone }
+
+lowest_0 : IsLowest (whole 0)
+unfolding lowest
+lowest_0 = (lowest_is (whole 0) (omega (arith, ints))).lowest
+
+lowest_4 : IsLowest (whole 4)
+unfolding lowest
+lowest_4 = (lowest_is (whole 4) (omega (arith, ints))).lowest
+
+lowest_10 : IsLowest (whole 10)
+unfolding lowest
+lowest_10 = (lowest_is (whole 10) (omega (arith, ints))).lowest
+
+small_number : (n : ℕ) → n < 11 → IsWithinSize (2 ^ 104) (pos n)
+small_number n small = record { low = omega (arith, ints); high = omega (arith, ints) }
+
+flow_shape : (n : ℕ) → n < 11 → IsFlowShape two (pos n ∷ pos n ∷ [])
+flow_shape n small = record {
+  full = refl;
+  each = All-cons (IsWithinSize (2 ^ 104)) (pos n) (pos n ∷ []) (small_number n small) (All-cons (IsWithinSize (2 ^ 104)) (pos n) [] (small_number n small) (All-nil (IsWithinSize (2 ^ 104))));
+}
+
+-- ---- at 08/2
+
+at_is_right : IsRight (at (record { p = pos 8; q = pos 2 })) (network two) []
+    (text (codes "o at" ∷ codes "b 4 1 4" ∷ codes "s 0 1 100" ∷ codes "f 4 4" ∷ codes "end" ∷ []))
+unfolding text digits point_text lowest
+at_is_right = record {
+  point = record { at = whole 4; side = first_side; flow = fours };
+  shape = record { at = whole_shape 4 (omega arith) lowest_4; side = first_cut; flow = flow_shape 4 (omega arith) };
+  parameter = refl;
+  best = record {
+    smallest = smallest_from_reach (network_at two (whole 4)) fours first_side (proper_at two (whole 4) two_is_monotone (inside 4 (omega arith))) flow_at_4 reach_at_4 refl;
+    flow_is = flow_at_4;
+    value_is = refl;
+  };
+  text_is = refl;
+}
+
+-- ---- the whole function
+
+abbrev curve : Curve
+curve = record {
+  points = whole 0 ∷ whole 4 ∷ whole 10 ∷ [];
+  cuts = first_side ∷ second_side ∷ [];
+  flows = zeros ∷ fours ∷ fours ∷ [];
+}
+
+abbrev curve_lines : List ℕ
+curve_lines = text (codes "o curve" ∷ codes "k 2" ∷ codes "b 0 0 1 0" ∷ codes "s 1 0 1 100" ∷ codes "b 1 4 1 4" ∷ codes "s 2 4 0 110" ∷ codes "b 2 10 1 4" ∷ codes "f 0 0 0" ∷ codes "f 1 4 4" ∷ codes "f 2 4 4" ∷ codes "end" ∷ [])
+
+division : IsDivision two curve.points curve.cuts
+division = record { some = omega arith; count = refl; parameters = parameters; low = refl; high = refl; rise = rise }
+  where
+    parameters : (i : ℕ) → i < 3 → IsParameter (point_at two curve.points i)
+    parameters zero low = omega (arith, ints)
+    parameters (suc zero) low = omega (arith, ints)
+    parameters (suc (suc zero)) low = omega (arith, ints)
+    parameters (suc (suc (suc i))) low = absurd (omega (arith, low))
+
+    rise : (i : ℕ) → i < 2 → IsBelow (point_at two curve.points i) (point_at two curve.points (i + 1))
+    rise zero low = omega (arith, ints)
+    rise (suc zero) low = omega (arith, ints)
+    rise (suc (suc i)) low = absurd (omega (arith, low))
+
+flows_are : (j : ℕ) → j < 3 → IsFlow (network_at two (point_at two curve.points j)) (flow_at curve.flows j)
+flows_are zero low = flow_at_0
+flows_are (suc zero) low = flow_at_4
+flows_are (suc (suc zero)) low = flow_at_10
+flows_are (suc (suc (suc j))) low = absurd (omega (arith, low))
+
+meets_left : (i : ℕ) → i < 2 → Meets two curve.points curve.cuts curve.flows i i
+meets_left zero low = refl
+meets_left (suc zero) low = refl
+meets_left (suc (suc i)) low = absurd (omega (arith, low))
+
+meets_right : (i : ℕ) → i < 2 → Meets two curve.points curve.cuts curve.flows (i + 1) i
+meets_right zero low = refl
+meets_right (suc zero) low = refl
+meets_right (suc (suc i)) low = absurd (omega (arith, low))
+
+reaches : (i : ℕ) → i < 2 → IsReach (network_at two (point_at two curve.points (i + 1))) (flow_at curve.flows (i + 1)) (cut_at curve.cuts i)
+reaches zero low = reach_at_4
+reaches (suc zero) low = reach_at_10
+reaches (suc (suc i)) low = absurd (omega (arith, low))
+
+cuts_are : (i : ℕ) → i < 2 → IsNetworkCut two (cut_at curve.cuts i)
+cuts_are zero low = first_cut
+cuts_are (suc zero) low = second_cut
+cuts_are (suc (suc i)) low = absurd (omega (arith, low))
+
+slopes_fall : (i : ℕ) → i + 1 < 2 → cut_b two (cut_at curve.cuts (i + 1)) <ℤ cut_b two (cut_at curve.cuts i)
+slopes_fall zero low = omega (arith, ints)
+slopes_fall (suc i) low = absurd (omega (arith, low))
+
+certificate : CertifiesCurve two curve.points curve.cuts curve.flows
+certificate = record {
+  division = division;
+  count = refl;
+  flow_is = flows_are;
+  left = meets_left;
+  right = meets_right;
+  reach = reaches;
+  cut = cuts_are;
+  slopes = slopes_fall;
+}
+
+curve_shape : IsCurveShape two curve
+curve_shape = record {
+  some = omega arith;
+  count = refl;
+  flow_count = refl;
+  points = All-cons IsFractionShape (whole 0) (whole 4 ∷ whole 10 ∷ []) (whole_shape 0 (omega arith) lowest_0)
+      (All-cons IsFractionShape (whole 4) (whole 10 ∷ []) (whole_shape 4 (omega arith) lowest_4)
+      (All-cons IsFractionShape (whole 10) [] (whole_shape 10 (omega arith) lowest_10) (All-nil IsFractionShape)));
+  cuts = All-cons (IsNetworkCut two) first_side (second_side ∷ []) first_cut (All-cons (IsNetworkCut two) second_side [] second_cut (All-nil (IsNetworkCut two)));
+  flows = All-cons (IsFlowShape two) zeros (fours ∷ fours ∷ []) (flow_shape 0 (omega arith))
+      (All-cons (IsFlowShape two) fours (fours ∷ []) (flow_shape 4 (omega arith))
+      (All-cons (IsFlowShape two) fours [] (flow_shape 4 (omega arith)) (All-nil (IsFlowShape two))));
+}
+
+curve_is_right : IsRightCurve two curve_lines
+unfolding text digits curve_text
+curve_is_right = record { curve = curve; shape = curve_shape; best = certified_is_curve two curve.points curve.cuts curve.flows two_is_monotone certificate; certificate = certificate; text_is = refl }
+
+-- ---- the verdict on it, and on nothing
+
+yes_is_right : IsRightCheck two curve_lines (text (codes "o check" ∷ codes "yes" ∷ codes "end" ∷ []))
+unfolding text digits curve_text verdict_text
+yes_is_right = record { verdict = true; exact = (λ same. record { curve = curve; shape = curve_shape; certificate = certificate; text_is = refl }, λ certified. refl); text_is = refl }
+
+not_empty : (c : Curve) → [] ≡ curve_text two c → ⊥
+unfolding curve_text
+not_empty c e = cc
+
+no_is_right : IsRightCheck two [] (text (codes "o check" ∷ codes "no" ∷ codes "end" ∷ []))
+unfolding text verdict_text
+no_is_right = record { verdict = false; exact = (λ same. absurd cc, λ certified. absurd (not_empty certified.curve certified.text_is)); text_is = refl }
+
+-- ---- a sweep of one step
+
+reached_at_0 : (v : ℕ) → has first_side v ≡ true → Reaches (network_at two (whole 0)) zeros 0 v
+reached_at_0 zero h = (0, refl)
+reached_at_0 (suc zero) h = absurd cc
+reached_at_0 (suc (suc zero)) h = absurd cc
+reached_at_0 (suc (suc (suc v))) h = absurd cc
+
+reach_at_0 : IsReach (network_at two (whole 0)) zeros first_side
+reach_at_0 = reach_by (network_at two (whole 0)) zeros first_side (proper_at two (whole 0) two_is_monotone (inside 0 (omega arith))) flow_at_0
+    (record { full = refl; with_source = refl; without_sink = refl }) (omega (arith, ints)) reached_at_0
+
+smallest_at_0 : IsSmallestLeast (network_at two (whole 0)) first_side
+smallest_at_0 = smallest_from_reach (network_at two (whole 0)) zeros first_side (proper_at two (whole 0) two_is_monotone (inside 0 (omega arith))) flow_at_0 reach_at_0 refl
+
+smallest_at_10 : IsSmallestLeast (network_at two (whole 10)) second_side
+smallest_at_10 = smallest_from_reach (network_at two (whole 10)) fours second_side (proper_at two (whole 10) two_is_monotone (inside 10 (omega arith))) flow_at_10 reach_at_10 refl
+
+abbrev rows : List Row
+rows = record { at = whole 0; value = pos 0; size = 1 } ∷ record { at = whole 10; value = pos 4; size = 2 } ∷ []
+
+rows_are_right : (j : ℕ) → j < 2 → IsRightRow two (sweep_parameter two 1 j) (row_at two rows j)
+unfolding lowest
+rows_are_right zero low = record {
+  shape = record { at = whole_shape 0 (omega arith) lowest_0; value = record { low = omega (arith, ints); high = omega (arith, ints) }; size = omega arith };
+  parameter = refl;
+  value = record { side = first_side; least = smallest_at_0.least; value_is = refl };
+  size = record { side = first_side; least = smallest_at_0; count_is = refl };
+}
+rows_are_right (suc zero) low = record {
+  shape = record { at = whole_shape 10 (omega arith) lowest_10; value = record { low = omega (arith, ints); high = omega (arith, ints) }; size = omega arith };
+  parameter = refl;
+  value = record { side = second_side; least = smallest_at_10.least; value_is = refl };
+  size = record { side = second_side; least = smallest_at_10; count_is = refl };
+}
+rows_are_right (suc (suc j)) low = absurd (omega (arith, low))
+
+sweep_is_right : IsRightSweep 1 two (text (codes "o sweep" ∷ codes "k 1" ∷ codes "x 0 0 1 0 1" ∷ codes "x 1 10 1 4 2" ∷ codes "end" ∷ []))
+unfolding text digits sweep_text
+sweep_is_right = record { rows = rows; count = refl; each = rows_are_right; text_is = refl }
+
+-- the five parameters of four steps
+parameters_of_sweep : map (sweep_parameter two 4) (0 ∷ 1 ∷ 2 ∷ 3 ∷ 4 ∷ [])
+    ≡ whole 0 ∷ record { p = pos 5; q = pos 2 } ∷ whole 5 ∷ record { p = pos 15; q = pos 2 } ∷ whole 10 ∷ []
+unfolding lowest
+parameters_of_sweep = refl
