@@ -1,12 +1,14 @@
 -- The judgement of a text, one line at a time, for every kind of text.
-use Rattle.std.proofs.Common.{◌≡◌, ℕ, ◌+◌, ◌<◌, ◌≤◌, true, false, eqb, ◌&&◌, List, [], ◌∷◌, Some, None, Ok, Err, refl}
-use Rattle.std.specs.Prelude.{ℤ, codes, if◌then◌else◌}
+use Rattle.std.proofs.Common.{◌≡◌, ℕ, suc, ◌+◌, ◌<◌, ◌≤◌, Bool, true, false, cond, eqb, ◌&&◌, List, [], ◌∷◌, length, Option, Some, None, Ok, Err, refl, ap, ◌∙◌}
+use Rattle.std.specs.Prelude.{◌≢◌, ℤ, codes, if◌then◌else◌}
+use Rattle.std.specs.Str.{bytes_eq}
 use Rattle.std.proofs.lemmas.Bool.{lt-ltb, le-ltb}
 use Rattle.pf_text.specs.declared.RuleKind.{RuleKind}
 use Rattle.pf_text.specs.declared.TextBad.{TextBad}
 use Rattle.pf_text.specs.declared.TextBad.TheVariants.{Syntax, Range, Count, WrongKind, Rule, NoEnd}
 use Rattle.pf_text.specs.Lines.{Line, lines_from}
-use Rattle.pf_text.specs.Kinds.{FieldPattern, word, Form, Kind, State, Match, numbers_by, are_in_range, match_of, is_wrong_kind, header, step, is_end, end_line, body, problem_of}
+use Rattle.pf_text.specs.Numbers.{whole_of}
+use Rattle.pf_text.specs.Kinds.{FieldPattern, number, word, Form, Kind, State, Match, with_number, numbers_by, are_in_range, match_of, is_wrong_kind, header, step, is_end, end_line, body, problem_of}
 
 -- ---- the text
 
@@ -123,3 +125,36 @@ pub end_ok : {G P : Type 0} (kind : Kind G P) (state : State G) (line : Line) (p
     → end_line kind state line ≡ Ok (record { problem = problem; rest = line.rest; line = line.number })
 unfolding end_line
 end_ok kind state line problem all ok = rw (le-ltb _ _ all, ok) refl
+
+-- ---- the number of fields
+
+pub with_number_none : (n : Option ℤ) → with_number n None ≡ None
+with_number_none (Some n) = refl
+with_number_none None = refl
+
+if_none : (b : Bool) (x : Option (List ℤ)) → x ≡ None → cond b x None ≡ None
+if_none true x none = none
+if_none false x none = refl
+
+-- a line with another number of fields than patterns does not have them
+pub numbers_by_count : (patterns : List FieldPattern) (fields : List (List ℕ)) → length fields ≢ length patterns → numbers_by patterns fields ≡ None
+numbers_by_count [] [] differ = absurd (differ refl)
+numbers_by_count [] (field ∷ fields) differ = refl
+numbers_by_count (number low high ∷ patterns) [] differ = refl
+numbers_by_count (word w ∷ patterns) [] differ = refl
+numbers_by_count (number low high ∷ patterns) (field ∷ fields) differ =
+    let fewer : length fields ≢ length patterns = (λ same. differ (ap suc same)) in
+    ap (with_number (whole_of field)) (numbers_by_count patterns fields fewer) ∙ with_number_none (whole_of field)
+numbers_by_count (word w ∷ patterns) (field ∷ fields) differ =
+    let fewer : length fields ≢ length patterns = (λ same. differ (ap suc same)) in
+    if_none (bytes_eq field w) (numbers_by patterns fields) (numbers_by_count patterns fields fewer)
+
+-- a field that is no number where a number should be
+pub numbers_by_bad : (low high : ℤ) (patterns : List FieldPattern) (field : List ℕ) (fields : List (List ℕ)) → whole_of field ≡ None
+    → numbers_by (number low high ∷ patterns) (field ∷ fields) ≡ None
+numbers_by_bad low high patterns field fields none = rw none refl
+
+-- a field that is a number, in front of others
+pub numbers_by_number : (low high : ℤ) (patterns : List FieldPattern) (field : List ℕ) (fields : List (List ℕ)) (n : ℤ) → whole_of field ≡ Some n
+    → numbers_by (number low high ∷ patterns) (field ∷ fields) ≡ with_number (Some n) (numbers_by patterns fields)
+numbers_by_number low high patterns field fields n some = rw some refl

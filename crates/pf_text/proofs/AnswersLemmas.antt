@@ -1,0 +1,35 @@
+-- The texts of answers, one line at a time.
+use Rattle.std.proofs.Common.{◌≡◌, ℕ, ◌+◌, ◌<◌, List, [], ◌∷◌, ◌++◌, length, get_or, map, drop, add-one, ap, ◌∙◌}
+use Rattle.std.specs.Prelude.{ℤ, Bool, codes}
+use Rattle.std.specs.Fmt.{decimal, signed_decimal}
+use Rattle.std.proofs.Math.Seq.{drop-cons}
+use Rattle.pf_model.specs.Fraction.{Fraction}
+use Rattle.pf_model.specs.Network.{Network}
+use Rattle.pf_model.specs.Answer.{Row}
+use Rattle.pf_text.specs.Answers.{line, point_fields, cut_fields, segments_text, flows_text, rows_text}
+
+next : {X : Type 0} (xs : List X) (i : ℕ) (other : X) → i < length xs → drop i xs ≡ get_or xs i other ∷ drop (i + 1) xs
+next xs i other low = rw add-one (drop-cons xs i other low)
+
+-- flow j and those behind it
+pub flows_text_at : (j : ℕ) (flows : List (List ℤ)) → j < length flows
+    → flows_text j (drop j flows) ≡ line (codes "f" ∷ decimal j ∷ map signed_decimal (get_or flows j [])) ++ flows_text (j + 1) (drop (j + 1) flows)
+flows_text_at j flows low = ap (flows_text j) (next flows j [] low)
+
+-- row j and those behind it
+pub rows_text_at : (j : ℕ) (rows : List Row) (other : Row) → j < length rows
+    → rows_text j (drop j rows) ≡ line (codes "x" ∷ decimal j ∷ signed_decimal (get_or rows j other).at.p ∷ signed_decimal (get_or rows j other).at.q
+    ∷ signed_decimal (get_or rows j other).value ∷ decimal (get_or rows j other).size ∷ []) ++ rows_text (j + 1) (drop (j + 1) rows)
+rows_text_at j rows other low = ap (rows_text j) (next rows j other low)
+
+-- segment i, numbered from 1, and those behind it
+pub segments_text_at : (net : Network) (i : ℕ) (sides : List (List Bool)) (points : List Fraction) (flows : List (List ℤ)) (other : Fraction)
+    → i < length sides → i + 1 < length points → i + 1 < length flows
+    → segments_text net (i + 1) (drop i sides) (drop (i + 1) points) (drop (i + 1) flows)
+    ≡ line (codes "s" ∷ decimal (i + 1) ∷ cut_fields net (get_or sides i []))
+    ++ line (codes "b" ∷ decimal (i + 1) ∷ point_fields net (get_or points (i + 1) other) (get_or flows (i + 1) []))
+    ++ segments_text net (i + 1 + 1) (drop (i + 1) sides) (drop (i + 1 + 1) points) (drop (i + 1 + 1) flows)
+segments_text_at net i sides points flows other side point flow =
+    ap (λ (xs : List (List Bool)). segments_text net (i + 1) xs (drop (i + 1) points) (drop (i + 1) flows)) (next sides i [] side)
+    ∙ ap (λ (xs : List Fraction). segments_text net (i + 1) (get_or sides i [] ∷ drop (i + 1) sides) xs (drop (i + 1) flows)) (next points (i + 1) other point)
+    ∙ ap (λ (xs : List (List ℤ)). segments_text net (i + 1) (get_or sides i [] ∷ drop (i + 1) sides) (get_or points (i + 1) other ∷ drop (i + 1 + 1) points) xs) (next flows (i + 1) [] flow)
