@@ -28,7 +28,7 @@ of_parts p p' q q' e f = cc
 
 pub same_fraction : (x y : Fraction) → IsFractionShape x → IsFractionShape y → signed_decimal x.p ≡ signed_decimal y.p → signed_decimal x.q ≡ signed_decimal y.q → x ≡ y
 same_fraction x y shape shape' p q =
-    let size : (z : Fraction) → IsFractionShape z → (nat_abs z.p < 10 ^ 64) × (nat_abs z.q < 10 ^ 64) = λ z s. (let a = s.low in let b = s.high in omega (arith, ints, a, b), let c = s.parameter in let d = s.denominator in omega (arith, ints, c, d)) in
+    let size : (z : Fraction) → IsFractionShape z → (nat_abs z.p < 10 ^ 64) × (nat_abs z.q < 10 ^ 64) = λ z s. (let a = s.bounds.p_low in let b = s.bounds.p_high in omega (arith, ints, a, b), let c = s.bounds.parameter in let d = s.bounds.q_high in omega (arith, ints, c, d)) in
     let same_p = same_signed x.p y.p (size x shape).0 (size y shape').0 p in
     let same_q = same_signed x.q y.q (size x shape).1 (size y shape').1 q in
     of_parts x.p y.p x.q y.q same_p same_q
