@@ -54,7 +54,7 @@ flow_shape net x flow b within =
     }
 
 fraction_shape : (x : Fraction) → IsBoundedFraction x → IsLowest x → IsFractionShape x
-fraction_shape x b l = record { low = b.p_low; high = b.p_high; parameter = b.parameter; denominator = b.q_high; lowest = l }
+fraction_shape x b l = record { bounds = b; lowest = l }
 
 -- the shape of what was found
 pub shape_found : (net : Network) (x : Fraction) (caps flow : List ℤ) (side : List Bool) → IsPoint net x side flow → IsBoundedFraction x → IsLowest x →
