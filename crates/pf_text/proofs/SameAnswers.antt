@@ -10,7 +10,8 @@ use Rattle.pf_model.specs.Fraction.{Fraction}
 use Rattle.pf_model.specs.Network.{Network, IsNetworkCut}
 use Rattle.pf_model.specs.Answer.{Point, Row, IsWithinSize, IsFractionShape, IsFlowShape, IsPointShape, IsRowShape}
 use Rattle.pf_text.specs.Answers.{line, point_fields, cut_fields, point_text, rows_text, sweep_text, verdict_text}
-use Rattle.pf_text.proofs.TextLines.{ArePlain, lines_text, lines_text-append, same_lines, decimal_plain, signed_plain, numbers_plain, side_plain, same_side, same_decimal, same_signed}
+use Rattle.pf_text.proofs.NumbersLemmas.{one_number}
+use Rattle.pf_text.proofs.TextLines.{ArePlain, lines_text, lines_text-append, same_lines, decimal_plain, signed_plain, numbers_plain, side_plain, same_side, same_decimal}
 
 -- ---- parts
 
@@ -29,8 +30,8 @@ of_parts p p' q q' e f = cc
 pub same_fraction : (x y : Fraction) → IsFractionShape x → IsFractionShape y → signed_decimal x.p ≡ signed_decimal y.p → signed_decimal x.q ≡ signed_decimal y.q → x ≡ y
 same_fraction x y shape shape' p q =
     let size : (z : Fraction) → IsFractionShape z → (nat_abs z.p < 10 ^ 64) × (nat_abs z.q < 10 ^ 64) = λ z s. (let a = s.bounds.p_low in let b = s.bounds.p_high in omega (arith, ints, a, b), let c = s.bounds.parameter in let d = s.bounds.q_high in omega (arith, ints, c, d)) in
-    let same_p = same_signed x.p y.p (size x shape).0 (size y shape').0 p in
-    let same_q = same_signed x.q y.q (size x shape).1 (size y shape').1 q in
+    let same_p = one_number x.p y.p (size x shape).0 (size y shape').0 p in
+    let same_q = one_number x.q y.q (size x shape).1 (size y shape').1 q in
     of_parts x.p y.p x.q y.q same_p same_q
 
 same_numbers : (a b : List ℤ) → AllByRecursion (IsWithinSize (2 ^ 104)) a → AllByRecursion (IsWithinSize (2 ^ 104)) b → map signed_decimal a ≡ map signed_decimal b → a ≡ b
@@ -40,7 +41,7 @@ same_numbers (x ∷ a) [] sa sb e = absurd cc
 same_numbers (x ∷ a) (y ∷ b) sa sb e =
     let first : signed_decimal x ≡ signed_decimal y = cc in
     let later : map signed_decimal a ≡ map signed_decimal b = cc in
-    let here = same_signed x y (within_digits (2 ^ 104) x (omega arith) sa.0) (within_digits (2 ^ 104) y (omega arith) sb.0) first in
+    let here = one_number x y (within_digits (2 ^ 104) x (omega arith) sa.0) (within_digits (2 ^ 104) y (omega arith) sb.0) first in
     let back = same_numbers a b sa.1 sb.1 later in
     cc
 
@@ -154,7 +155,7 @@ same_rows_by j [] (row ∷ b) tail tail' sa sb other other' e = absurd (other (a
 same_rows_by j (row ∷ a) [] tail tail' sa sb other other' e = absurd (other' (sym (ap mark e)))
 same_rows_by j (x ∷ a) (y ∷ b) tail tail' sa sb other other' e =
     let at = same_fraction x.at y.at sa.0.at sb.0.at (ap (field_at 0 2) e) (ap (field_at 0 3) e) in
-    let value = same_signed x.value y.value (within_digits (2 ^ 119) x.value (omega arith) sa.0.value) (within_digits (2 ^ 119) y.value (omega arith) sb.0.value) (ap (field_at 0 4) e) in
+    let value = one_number x.value y.value (within_digits (2 ^ 119) x.value (omega arith) sa.0.value) (within_digits (2 ^ 119) y.value (omega arith) sb.0.value) (ap (field_at 0 4) e) in
     let size = same_decimal x.size y.size (small_size x.size sa.0.size) (small_size y.size sb.0.size) (ap (field_at 0 5) e) in
     let here : x ≡ y = row_of_parts x.at y.at x.value y.value x.size y.size at value size in
     let back : a ≡ b = same_rows_by (j + 1) a b tail tail' sa.1 sb.1 other other' (ap (drop 1) e) in

@@ -1,6 +1,6 @@
 -- A text of lines has these lines and no others: fields and lines can be told apart.
-use Rattle.std.proofs.Common.{◌≡◌, ℕ, zero, suc, ◌+◌, ◌/◌, ◌%◌, ◌<◌, ◌^◌, Bool, true, false, cond, eqb, ltb, not, ◌&&◌, List, [], ◌∷◌, ◌++◌, length, get_or, map, Some, None, refl, sym, ap, subst, ◌∙◌, append_assoc, arith}
-use Rattle.std.specs.Prelude.{ℤ, pos, negsuc, nat_abs}
+use Rattle.std.proofs.Common.{◌≡◌, ℕ, zero, suc, ◌+◌, ◌/◌, ◌%◌, ◌<◌, ◌^◌, Bool, true, false, cond, eqb, ltb, not, ◌&&◌, List, [], ◌∷◌, ◌++◌, length, get_or, map, Some, refl, sym, ap, subst, ◌∙◌, append_assoc, arith}
+use Rattle.std.specs.Prelude.{ℤ, pos, negsuc}
 use Rattle.std.specs.List.{join_with_byte, list_all, AllByRecursion}
 use Rattle.std.specs.Fmt.{digit_glyph, digits_onto, digits, decimal, signed_decimal}
 use Rattle.std.proofs.lemmas.Bool.{lt-ltb, ltb-true}
@@ -10,7 +10,7 @@ use Rattle.pf_text.specs.Lines.{is_blank, fields}
 use Rattle.pf_text.specs.Numbers.{natural_of}
 use Rattle.pf_text.specs.Answers.{line, side_text}
 use Rattle.pf_text.proofs.LinesLemmas.{IsField, AreFields, field_end, fields_of_line}
-use Rattle.pf_text.proofs.NumbersLemmas.{natural_of-decimal, natural_of-others}
+use Rattle.pf_text.proofs.NumbersLemmas.{natural_of-decimal}
 
 -- ---- plain fields
 
@@ -202,18 +202,4 @@ same_side (false ∷ a) (true ∷ b) e = absurd (let first = ap (λ (xs : List �
 pub same_decimal : (m n : ℕ) → m < 10 ^ 64 → n < 10 ^ 64 → decimal m ≡ decimal n → m ≡ n
 same_decimal m n m_small n_small e =
     let some : Some m ≡ Some n = sym (natural_of-decimal m m_small) ∙ ap natural_of e ∙ natural_of-decimal n n_small in
-    cc
-
-no_minus : (m : ℕ) (rest : List ℕ) → m < 10 ^ 64 → decimal m ≡ 45 ∷ rest → ⊥
-no_minus m rest small e =
-    let some : Some m ≡ None = sym (natural_of-decimal m small) ∙ ap natural_of e ∙ natural_of-others (45 ∷ rest) refl in
-    cc
-
-pub same_signed : (y z : ℤ) → nat_abs y < 10 ^ 64 → nat_abs z < 10 ^ 64 → signed_decimal y ≡ signed_decimal z → y ≡ z
-same_signed (pos m) (pos n) y_small z_small e = ap pos (same_decimal m n y_small z_small e)
-same_signed (pos m) (negsuc n) y_small z_small e = absurd (no_minus m (decimal (suc n)) y_small e)
-same_signed (negsuc m) (pos n) y_small z_small e = absurd (no_minus n (decimal (suc m)) z_small (sym e))
-same_signed (negsuc m) (negsuc n) y_small z_small e =
-    let later : decimal (suc m) ≡ decimal (suc n) = cc in
-    let same : suc m ≡ suc n = same_decimal (suc m) (suc n) y_small z_small later in
     cc

@@ -7,6 +7,7 @@ use Rattle.pf_model.specs.Answer.{Point, Curve, Row, IsPointShape, IsCurveShape,
 use Rattle.pf_text.specs.Kinds.{Accepted, problem_of}
 use Rattle.pf_text.specs.Par.{billion, par}
 use Rattle.pf_text.specs.Answers.{point_text, curve_text, sweep_text, verdict_text}
+use Rattle.pf_text.specs.Right.{IsRightCheck}
 
 -- an end of an interval that a text gives, in lowest terms
 pub record IsTextFraction (x : Fraction) : Type 0 where
@@ -52,3 +53,7 @@ RowsFromText = (a b : List Row) → All IsRowShape a → All IsRowShape b → sw
 
 abbrev pub VerdictFromText : Type 0
 VerdictFromText = (a b : Bool) → verdict_text a ≡ verdict_text b → a ≡ b
+
+-- one of `yes` and `no` is the right verdict, and not the other
+abbrev pub VerdictIsUnique : Type 0
+VerdictIsUnique = (net : Network) (rest a b : List ℕ) → IsRightCheck net rest a → IsRightCheck net rest b → a ≡ b
