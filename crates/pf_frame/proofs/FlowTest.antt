@@ -34,3 +34,11 @@ within_of_flow g caps flow s t b f = record {
 -- what lies within the capacities does so whichever nodes are source and sink
 pub within_any_sink : (g : Graph) (caps flow : List ℤ) (s t s' t' : ℕ) → IsWithin (network_of g caps s t) flow → IsWithin (network_of g caps s' t') flow
 within_any_sink g caps flow s t s' t' w = record { full = w.full; low = w.low; high = w.high }
+
+-- a flow within bounded capacities is bounded
+pub bounded_of_flow : (g : Graph) (caps flow : List ℤ) (s t : ℕ) → IsBounded g caps → IsWithin (network_of g caps s t) flow → IsBounded g flow
+bounded_of_flow g caps flow s t b w = record {
+  full = w.full;
+  low = w.low;
+  high = λ i low. let most = w.high i low in let limit = b.high i low in omega (arith, ints, most, limit);
+}
