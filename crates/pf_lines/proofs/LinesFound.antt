@@ -1,6 +1,6 @@
 -- A line of a text is given or passed over.
-use Rattle.std.proofs.Common.{◌≡◌, ℕ, ◌+◌, Bool, true, false, List, ◌∷◌, sym, ap, ◌∙◌}
-use Rattle.pf_text.specs.Lines.{RawLine, raw_lines, fields, Line, is_passed_over, lines_from}
+use Rattle.std.proofs.Common.{◌≡◌, ℕ, ◌+◌, true, false, List, ◌∷◌}
+use Rattle.pf_text.specs.Lines.{raw_lines, fields, Line, is_passed_over, lines_from}
 use Rattle.pf_text.proofs.LinesLemmas.{lines_skip, lines_give}
 use Rattle.pf_lines.specs.Places.{lines_left, behind}
 

@@ -1,0 +1,50 @@
+// Why readers refuse.
+use pf_text::TextBad;
+use std::alloc::{AllocError, AllocFailed};
+use thiserror::Error;
+
+/// Why a reader of problems gives none.
+#[derive(Clone, Copy, Debug, PartialEq, Eq, Error)]
+pub enum ReadBad {
+    /// The text is refused: the first line that is refused, and why.
+    #[error("{0}")]
+    Text(TextBad),
+    /// Memory was not found.
+    #[error("no memory")]
+    NoMemory,
+}
+
+impl From<AllocError> for ReadBad {
+    fn from(_error: AllocError) -> ReadBad {
+        ReadBad::NoMemory
+    }
+}
+
+impl<T: Drop> From<AllocFailed<T>> for ReadBad {
+    fn from(_error: AllocFailed<T>) -> ReadBad {
+        ReadBad::NoMemory
+    }
+}
+
+/// Why a reader of answers gives none.
+#[derive(Clone, Copy, Debug, PartialEq, Eq, Error)]
+pub enum AnswerBad {
+    /// No answer of the right shape has these bytes as its text.
+    #[error("not the text of an answer")]
+    NotText,
+    /// Memory was not found.
+    #[error("no memory")]
+    NoMemory,
+}
+
+impl From<AllocError> for AnswerBad {
+    fn from(_error: AllocError) -> AnswerBad {
+        AnswerBad::NoMemory
+    }
+}
+
+impl<T: Drop> From<AllocFailed<T>> for AnswerBad {
+    fn from(_error: AllocFailed<T>) -> AnswerBad {
+        AnswerBad::NoMemory
+    }
+}
