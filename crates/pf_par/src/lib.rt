@@ -15,4 +15,4 @@ mod writing;
 
 pub use pf_lines::ReadBad;
 pub use reading::read_par;
-pub use writing::write_at;
+pub use writing::{write_at, write_curve};
