@@ -11,7 +11,7 @@ invariant-discharge g l = record {
   queue : l.queue.nodes ≡ l.frame.nodes;
   active : l.v < l.frame.nodes → IsActiveAt l.s l.t l.excess l.v;
   none : l.frame.nodes ≤ l.v → (u : ℕ) → u < l.frame.nodes → IsActiveAt l.s l.t l.excess u → ⊥;
-  counted : HasCounted l.initial.labels l.labels l.initial.steps l.steps;
+  counted : HasCounted l.fn.labels l.labels l.fn.steps l.steps;
 }
 
 abbrev pub decreases-discharge : goal.decreases-discharge
