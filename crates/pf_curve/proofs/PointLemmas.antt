@@ -53,6 +53,12 @@ flow_shape net x flow b within =
           rw same (within_size (at_arc flow i) (at_arc (map (capacity_at x) net.arcs) i) (within.low i low) (within.high i low) (b.high i low));
     }
 
+-- the shape of a greatest flow, as the code calls it
+pub flow_found : (net : Network) (x : Fraction) (frame : Graph) (s t : ℕ) (caps flow : List ℤ) → frame ≡ graph_of net → s ≡ net.source → t ≡ net.sink →
+    caps ≡ map (capacity_at x) net.arcs → IsBounded (graph_of net) caps → IsGreatest (network_of frame caps s t) flow → IsFlowShape net flow
+flow_found net x frame s t caps flow is_frame is_s is_t e bounded best =
+    flow_shape net x flow (rw e at bounded) (greatest_here net x caps flow e (rw (is_frame, is_s, is_t) at best)).flow_is.within
+
 fraction_shape : (x : Fraction) → IsBoundedFraction x → IsLowest x → IsFractionShape x
 fraction_shape x b l = record { bounds = b; lowest = l }
 
