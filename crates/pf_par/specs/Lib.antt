@@ -1,2 +1,5 @@
 pub mod Numbers
+pub mod Forms
+pub mod Rules
+pub mod ParState
 pub mod Reading
