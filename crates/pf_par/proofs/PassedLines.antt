@@ -1,6 +1,6 @@
 -- Lines that were taken, one after another, and the line that decided.
 use Rattle.std.proofs.Common.{◌≡◌, ℕ, ◌+◌, Bool, true, false, cond, not, ◌&&◌, List, [], ◌∷◌, ◌++◌, length, Option, Some, None, Result, Ok, Err, refl, sym, ap, subst, ◌∙◌, append_assoc}
-use Rattle.std.specs.Prelude.{ℤ, MatchOption, ◌==◌}
+use Rattle.std.specs.Prelude.{ℤ, MatchOption, IfErr, ◌==◌}
 use Rattle.pf_model.specs.Network.{Network, IsMonotone}
 use Rattle.pf_text.specs.declared.RuleKind.{RuleKind}
 use Rattle.pf_text.specs.declared.TextBad.{TextBad}
@@ -74,6 +74,11 @@ pub behind_refusal : {X Y : Type 0} (judged : Result Y TextBad) (value : X → Y
     → Agrees judged value (Err answer) → ((bad : TextBad) → judged ≡ Err bad → refused_line bad ≡ Some line.number) → place ≡ behind line → IsBehindRefusal answer place
 behind_refusal judged value (Text bad) line place e told is = rw (told bad e, is) refl
 behind_refusal judged value NoMemory line place e told is = tt
+
+pub behind_if_refused : {X Y : Type 0} (judged : Result Y TextBad) (value : X → Y) (result : Result X ReadBad) (line : Line) (place : Place)
+    → Agrees judged value result → ((bad : TextBad) → judged ≡ Err bad → refused_line bad ≡ Some line.number) → place ≡ behind line → IfErr result (λ bad. IsBehindRefusal bad place)
+behind_if_refused judged value (Ok x) line place e told is = tt
+behind_if_refused judged value (Err answer) line place e told is = behind_refusal judged value answer line place e told is
 
 -- ---- what was judged of all lines
 
