@@ -6,6 +6,8 @@ mod curve;
 mod family;
 mod point;
 mod single;
+#[cfg(test)]
+mod tests;
 mod whole;
 
 pub use curve::{Curve, Points, Sides};
