@@ -37,7 +37,7 @@ fn lies_far(x: &Rat) -> bool
     (x.q() << 44) < x.p().abs()
 }
 
-// The capacity at `p/q`, in units of `1/q`.
+/// The capacity of an arc at the parameter `p/q`, in units of `1/q`.
 pub fn capacity(arc: &AffineArc, at: &Rat) -> i128
     requires { IsSmallArc arc.now }
     ensures { result ≡ capacity_at at.now arc.now }
@@ -45,8 +45,8 @@ pub fn capacity(arc: &AffineArc, at: &Rat) -> i128
     i128::from(arc.a) * at.q() + i128::from(arc.b) * at.p()
 }
 
-// The slope rule of a rising network.
-fn keeps_rule(s: u32, t: u32, arc: &AffineArc) -> bool
+/// Whether an arc keeps the slope rule of a rising network with this source and this sink.
+pub fn keeps_rule(s: u32, t: u32, arc: &AffineArc) -> bool
     ensures { result ≡ keeps_slope Rising s t arc.now }
 {
     if arc.tail == s && arc.head != s && arc.head != t {

@@ -7,5 +7,6 @@ mod checks;
 mod net;
 mod sums;
 
+pub use checks::{capacity, keeps_rule};
 pub use net::{Net, NetBad};
 pub use pf_model::AffineArc;

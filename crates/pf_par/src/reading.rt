@@ -1,0 +1,36 @@
+// Reading of texts of the kind `par`.
+ghost use Rattle.std.specs.Prelude.{◌≡◌, IfErr};
+ghost use Rattle.pf_text.specs.Kinds.{problem_of_lines};
+ghost use Rattle.pf_text.specs.Par.{par};
+ghost use Rattle.pf_lines.specs.Places.{lines_left};
+ghost use Rattle.pf_par.specs.Reading.{Agrees, IsBehindRefusal, HasPassed};
+
+use crate::reading_forms::is_end;
+use crate::reading_state::State;
+use pf_lines::{Lines, ReadBad, TextBad};
+use pf_net::Net;
+use std::alloc::Global;
+
+/// Reads a text of the kind `par`, up to and with its line `end`: its network, or the first line
+/// that is refused, and why.
+///
+/// The reader of lines is left behind the line that decided: the line `end`, or the one that is
+/// refused. Where no line is `end`, it is left behind the last one.
+pub fn read_par(alloc: Global, lines: &mut Lines<'_>) -> Result<Net, ReadBad>
+    ensures judged { Agrees (problem_of_lines par (lines_left lines.old))
+        (λ net. record { problem = net; rest = lines.new.rest; line = lines.new.number }) result }
+    ensures refused { IfErr result (λ bad. IsBehindRefusal bad lines.new) }
+    ensures passed { HasPassed lines.old lines.new }
+{
+    let Some(first) = lines.next() else {
+        return Err(ReadBad::Text(TextBad::NoEnd));
+    };
+    let mut state = State::begin(alloc, &first)?;
+    'lines: while let Some(line) = lines.next() {
+        if is_end(&line) {
+            return state.end(alloc, &line);
+        }
+        state.step(&line)?;
+    }
+    Err(ReadBad::Text(TextBad::NoEnd))
+}

@@ -1,0 +1,63 @@
+// Which form a line has, by its words and the number of its fields.
+use crate::reading_fields::field;
+use pf_lines::TextLine;
+
+/// The forms of the lines between the header and the line `end`.
+#[derive(Clone, Copy, Debug, PartialEq, Eq)]
+pub enum LineForm {
+    Interval,
+    Source,
+    Sink,
+    Arc,
+}
+
+// The form of a line of three fields.
+fn node_form(line: &TextLine<'_>) -> Option<LineForm> {
+    if field(line, 0) != b"n".as_slice() {
+        return None;
+    }
+    let end = field(line, 2);
+    if end == b"s".as_slice() {
+        return Some(LineForm::Source);
+    }
+    if end == b"t".as_slice() {
+        return Some(LineForm::Sink);
+    }
+    None
+}
+
+// The form of a line of five fields.
+fn numbers_form(line: &TextLine<'_>) -> Option<LineForm> {
+    let first = field(line, 0);
+    if first == b"i".as_slice() {
+        return Some(LineForm::Interval);
+    }
+    if first == b"a".as_slice() {
+        return Some(LineForm::Arc);
+    }
+    None
+}
+
+/// The form of a line behind the header that is not `end`, if it has one.
+pub fn form_of(line: &TextLine<'_>) -> Option<LineForm> {
+    match line.count() {
+        3 => node_form(line),
+        5 => numbers_form(line),
+        _ => None,
+    }
+}
+
+/// Whether the line is `end`.
+pub fn is_end(line: &TextLine<'_>) -> bool {
+    line.count() == 1 && field(line, 0) == b"end".as_slice()
+}
+
+/// Whether the line is the header of another kind of text.
+pub fn is_wrong_kind(line: &TextLine<'_>) -> bool {
+    line.count() >= 2 && field(line, 0) == b"p".as_slice() && field(line, 1) != b"par".as_slice()
+}
+
+/// Whether the line begins with `p par` and has two more fields.
+pub fn is_header(line: &TextLine<'_>) -> bool {
+    line.count() == 4 && field(line, 0) == b"p".as_slice() && field(line, 1) == b"par".as_slice()
+}
