@@ -1,0 +1,46 @@
+// The answer to a request.
+use pf_curve::{AtBad, Point, at};
+use pf_lines::Lines;
+use pf_net::Net;
+use pf_par::{ReadBad, read_par};
+use pf_rat::Rat;
+use pf_text::{Refusal, TextBad};
+use std::alloc::Global;
+
+/// Why no answer was made.
+#[derive(Clone, Copy, Debug, PartialEq, Eq)]
+pub enum Stop {
+    Refused(Refusal),
+    NoMemory,
+}
+
+// The network of a text with nothing behind it.
+fn network(alloc: Global, bytes: &[u8]) -> Result<Net, Stop> {
+    let mut lines = Lines::new(alloc, bytes);
+    let net = match read_par(alloc, &mut lines) {
+        Ok(net) => net,
+        Err(ReadBad::Text(bad)) => return Err(Stop::Refused(Refusal::Text(bad))),
+        Err(ReadBad::NoMemory) => return Err(Stop::NoMemory),
+    };
+    match lines.next() {
+        None => Ok(net),
+        Some(line) => Err(Stop::Refused(Refusal::Text(TextBad::Syntax(line.number())))),
+    }
+}
+
+// The smallest least cut at the parameter `p/q`, and a greatest flow there.
+fn point(alloc: Global, net: &Net, p: i64, q: i64) -> Result<Point, Stop> {
+    let parameter = Rat::new(i128::from(p), i128::from(q));
+    match at(alloc, net, &parameter) {
+        Ok(point) => Ok(point),
+        Err(AtBad::Outside) => Err(Stop::Refused(Refusal::Outside)),
+        Err(AtBad::NoMemory) => Err(Stop::NoMemory),
+    }
+}
+
+/// The network, and the answer at a parameter.
+pub fn answer_at(alloc: Global, p: i64, q: i64, bytes: &[u8]) -> Result<(Net, Point), Stop> {
+    let net = network(alloc, bytes)?;
+    let point = point(alloc, &net, p, q)?;
+    Ok((net, point))
+}

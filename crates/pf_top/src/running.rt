@@ -1,0 +1,61 @@
+// From the words and the bytes of a source to the bytes of a sink and a status.
+use crate::answering::{Stop, answer_at};
+use crate::messages::tell;
+use crate::status::Status;
+use crate::words::{Request, read_words};
+use pf_curve::Point;
+use pf_io::{Failed, Printer, ReadEnd, Sink, Source, read_all};
+use pf_net::Net;
+use pf_par::write_at;
+use pf_text::Refusal;
+use std::alloc::Global;
+
+/// The most bytes of an input.
+const LIMIT: usize = 1 << 29;
+
+// Hands the text of the answer to the sink.
+fn hand_out<O: Sink>(out: &mut O, net: &Net, point: &Point) -> Result<(), Failed> {
+    let mut printer = Printer::new(out);
+    write_at(&mut printer, net, point)?;
+    printer.finish()
+}
+
+// The run with a command, up to its status.
+fn work<S: Source, O: Sink>(
+    alloc: Global,
+    request: Request,
+    source: &mut S,
+    out: &mut O,
+) -> Status {
+    let bytes = match read_all(alloc, source, LIMIT) {
+        Ok(bytes) => bytes,
+        Err(ReadEnd::Failed) => return Status::ReadFault,
+        Err(ReadEnd::TooLong) => return Status::Refused(Refusal::TooLong),
+        Err(ReadEnd::NoMemory) => return Status::NoMemory,
+    };
+    let Request::At(p, q) = request;
+    match answer_at(alloc, p, q, &bytes) {
+        Ok((net, point)) => match hand_out(out, &net, &point) {
+            Ok(()) => Status::Done,
+            Err(_) => Status::WriteFault,
+        },
+        Err(Stop::Refused(refusal)) => Status::Refused(refusal),
+        Err(Stop::NoMemory) => Status::NoMemory,
+    }
+}
+
+/// Reads all that the source has left, and writes the answer that the words ask for, or a line that says why there is none.
+pub fn run<S: Source, O: Sink, E: Sink>(
+    alloc: Global,
+    words: &[String],
+    source: &mut S,
+    out: &mut O,
+    err: &mut E,
+) -> Status {
+    let status = match read_words(words) {
+        None => Status::Usage,
+        Some(request) => work(alloc, request, source, out),
+    };
+    tell(status, err);
+    status
+}

@@ -1,0 +1,61 @@
+// Which command words ask for.
+ghost use Rattle.std.specs.Prelude.{◌≡◌};
+ghost use Rattle.std.specs.Option.{option_map};
+ghost use Rattle.pf_text.specs.Asked.{parameter_of, two_words, command_of};
+ghost use Rattle.pf_text.proofs.WordsLemmas.{fraction_of_parts};
+ghost use Rattle.pf_top.specs.Words.{word_bytes, fraction_of_pair, command_of_request};
+
+use pf_lines::whole;
+
+/// What words ask for.
+#[derive(Clone, Copy)]
+pub enum Request {
+    /// The parameter `p/q`.
+    At(i64, i64),
+}
+
+const BILLION: i64 = 1_000_000_000;
+
+// The two numbers of `P/Q`, if both are in their ranges.
+fn parameter(bytes: &[u8]) -> Option<(i64, i64)>
+    ensures { parameter_of bytes.now ≡ option_map fraction_of_pair result }
+{
+    match bytes.iter().position(|b| *b == b'/') {
+        None => None,
+        Some(slash) => fraction(&bytes[..slash], &bytes[slash + 1..]),
+    }
+}
+
+// The two numbers, if both are in their ranges.
+fn fraction(front: &[u8], back: &[u8]) -> Option<(i64, i64)>
+    ensures { fraction_of_parts front.now back.now ≡ option_map fraction_of_pair result }
+{
+    let Ok(p) = whole(front, -BILLION, BILLION) else {
+        return None;
+    };
+    let Ok(q) = whole(back, 1, BILLION) else {
+        return None;
+    };
+    Some((p, q))
+}
+
+// What two words ask for, if they have the form of a command.
+fn two_words(first: &[u8], second: &[u8]) -> Option<Request>
+    ensures { two_words first.now second.now ≡ option_map command_of_request result }
+{
+    if first != b"at".as_slice() {
+        return None;
+    }
+    let (p, q) = parameter(second)?;
+    Some(Request::At(p, q))
+}
+
+/// What the words ask for, if they have the form of a command.
+pub fn read_words(words: &[String]) -> Option<Request>
+    ensures { command_of (word_bytes words.now) ≡ option_map command_of_request result }
+{
+    match words {
+        [first, second] => two_words(first.as_bytes(), second.as_bytes()),
+        _ => None,
+    }
+}
