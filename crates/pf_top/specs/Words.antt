@@ -3,7 +3,7 @@ use Rattle.std.specs.Prelude.{ℕ, List, map, ℤ}
 use Rattle.std.specs.String.{string_bytes}
 use Rattle.std.specs.declared.string.String.{String}
 use Rattle.std.specs.declared.alloc.Global.{Global}
-use Rattle.pf_model.specs.Fraction.{Fraction}
+use Rattle.pf_model.specs.Fraction.{Fraction, IsBoundedFraction}
 use Rattle.pf_text.specs.Asked.{Command, at}
 use Rattle.pf_top.specs.declared.words.Request.{Request}
 use Rattle.pf_top.specs.declared.words.Request.TheVariants.{At}
@@ -18,3 +18,7 @@ fraction_of_pair pair = record { p = pair.0; q = pair.1 }
 -- the command that a request stands for
 abbrev pub command_of_request : Request → Command
 command_of_request (At p q) = at (record { p = p; q = q })
+
+-- the numbers of a request are within the widths that the code keeps
+abbrev pub IsBoundedRequest : Request → Type 0
+IsBoundedRequest (At p q) = IsBoundedFraction (record { p = p; q = q })

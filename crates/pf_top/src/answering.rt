@@ -1,4 +1,11 @@
 // The answer to a request.
+ghost use Rattle.std.specs.Prelude.{◌≡◌, ◌^◌, ◌≤◌, length, true, false, Err, IfOk};
+ghost use Rattle.pf_model.specs.Fraction.{IsParameter, IsBoundedFraction};
+ghost use Rattle.pf_text.specs.declared.Refusal.{Refusal};
+ghost use Rattle.pf_text.specs.Asked.{at, is_outside};
+ghost use Rattle.pf_model.specs.Fraction.{Fraction};
+ghost use Rattle.pf_top.specs.Answering.{IsRefused, IsNetworkOf, IsPointAt, IsMade};
+
 use pf_curve::{AtBad, Point, at};
 use pf_lines::Lines;
 use pf_net::Net;
@@ -15,7 +22,11 @@ pub enum Stop {
 }
 
 // The network of a text with nothing behind it.
-fn network(alloc: Global, bytes: &[u8]) -> Result<Net, Stop> {
+fn network(alloc: Global, bytes: &[u8]) -> Result<Net, Stop>
+    requires short { length bytes.now ≤ 2 ^ 29 }
+    ensures read { IfOk result (IsNetworkOf bytes.now) }
+    ensures refused { (refusal : Refusal) → result ≡ Err (Stop.Refused refusal) → (x : Fraction) → IsRefused (at x) bytes.now refusal }
+{
     let mut lines = Lines::new(alloc, bytes);
     let net = match read_par(alloc, &mut lines) {
         Ok(net) => net,
@@ -29,7 +40,15 @@ fn network(alloc: Global, bytes: &[u8]) -> Result<Net, Stop> {
 }
 
 // The smallest least cut at the parameter `p/q`, and a greatest flow there.
-fn point(alloc: Global, net: &Net, p: i64, q: i64) -> Result<Point, Stop> {
+fn point(alloc: Global, net: &Net, p: i64, q: i64) -> Result<Point, Stop>
+    requires bounds { IsBoundedFraction (record { p = p; q = q }) }
+    requires low { IsParameter net.now.low }
+    requires high { IsParameter net.now.high }
+    ensures point { IfOk result (IsPointAt (record { p = p; q = q }) net.now) }
+    ensures inside { IfOk result (λ _. is_outside (record { p = p; q = q }) net.now ≡ false) }
+    ensures refused { (refusal : Refusal) → result ≡ Err (Stop.Refused refusal)
+        → (refusal ≡ Refusal.Outside) × (is_outside (record { p = p; q = q }) net.now ≡ true) }
+{
     let parameter = Rat::new(i128::from(p), i128::from(q));
     match at(alloc, net, &parameter) {
         Ok(point) => Ok(point),
@@ -39,7 +58,12 @@ fn point(alloc: Global, net: &Net, p: i64, q: i64) -> Result<Point, Stop> {
 }
 
 /// The network, and the answer at a parameter.
-pub fn answer_at(alloc: Global, p: i64, q: i64, bytes: &[u8]) -> Result<(Net, Point), Stop> {
+pub fn answer_at(alloc: Global, p: i64, q: i64, bytes: &[u8]) -> Result<(Net, Point), Stop>
+    requires short { length bytes.now ≤ 2 ^ 29 }
+    requires bounds { IsBoundedFraction (record { p = p; q = q }) }
+    ensures made { IfOk result (λ made. IsMade (record { p = p; q = q }) bytes.now made.0 made.1) }
+    ensures refused { (refusal : Refusal) → result ≡ Err (Stop.Refused refusal) → IsRefused (at (record { p = p; q = q })) bytes.now refusal }
+{
     let net = network(alloc, bytes)?;
     let point = point(alloc, &net, p, q)?;
     Ok((net, point))

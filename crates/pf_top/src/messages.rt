@@ -1,8 +1,8 @@
 // The line that a status writes to the sink of messages.
-ghost use Rattle.std.specs.Prelude.{◌≡◌, ◌∷◌, [], ◌++◌, false, codes, OnOk, OnErr};
+ghost use Rattle.std.specs.Prelude.{◌≡◌, ◌≤◌, ◌∷◌, [], ◌++◌, false, codes, OnOk, OnErr};
 ghost use Rattle.std.specs.Fmt.{decimal};
 ghost use Rattle.pf_io.specs.Faults.{HasCause};
-ghost use Rattle.pf_io.specs.Told.{Took, IsFrontOf, after_told};
+ghost use Rattle.pf_io.specs.Told.{Took, IsFrontOf, after_told, told_length};
 ghost use Rattle.pf_io.specs.Printing.{Adds, is_spent};
 ghost use Rattle.pf_top.specs.Messages.{rule_word, bad_words, refusal_words, status_words, status_line, ErrAfter};
 
@@ -104,6 +104,7 @@ fn print_line<K: Sink>(out: &mut Printer<'_, K>, status: Status) -> Result<(), F
 // Hands the line of the status to the sink.
 fn say<E: Sink>(err: &mut E, status: Status) -> Result<(), Failed>
     ensures ok { OnOk result (Took (E.taken err.old) (E.taken err.new) (status_line status)) }
+    ensures flushed { OnOk result (E.flushed err.new ≡ told_length (E.taken err.new)) }
     ensures grows { IsFrontOf (E.taken err.old) (E.taken err.new) }
     ensures front { IsFrontOf (E.taken err.new) (after_told (E.taken err.old) (status_line status)) }
     ensures cause { HasCause (E.faults err.old) (E.faults err.new) result }
@@ -115,7 +116,8 @@ fn say<E: Sink>(err: &mut E, status: Status) -> Result<(), Failed>
 
 /// Writes the line of a status that has one. A fault of the sink is passed over.
 pub fn tell<E: Sink>(status: Status, err: &mut E)
-    ensures { ErrAfter E.Sink err.old err.new status }
+    ensures line { ErrAfter E.Sink err.old err.new status }
+    ensures count { E.faults err.old ≤ E.faults err.new }
 {
     match status {
         Status::Done | Status::No => {}

@@ -1,9 +1,11 @@
 // Which command words ask for.
-ghost use Rattle.std.specs.Prelude.{◌≡◌};
+ghost use Rattle.std.specs.Prelude.{◌≡◌, IfSome, ◌==◌};
+ghost use Rattle.pf_model.specs.Fraction.{IsBoundedFraction};
+ghost use Rattle.std.specs.List.{position};
 ghost use Rattle.std.specs.Option.{option_map};
 ghost use Rattle.pf_text.specs.Asked.{parameter_of, two_words, command_of};
 ghost use Rattle.pf_text.proofs.WordsLemmas.{fraction_of_parts};
-ghost use Rattle.pf_top.specs.Words.{word_bytes, fraction_of_pair, command_of_request};
+ghost use Rattle.pf_top.specs.Words.{word_bytes, fraction_of_pair, command_of_request, IsBoundedRequest};
 
 use pf_lines::whole;
 
@@ -16,19 +18,10 @@ pub enum Request {
 
 const BILLION: i64 = 1_000_000_000;
 
-// The two numbers of `P/Q`, if both are in their ranges.
-fn parameter(bytes: &[u8]) -> Option<(i64, i64)>
-    ensures { parameter_of bytes.now ≡ option_map fraction_of_pair result }
-{
-    match bytes.iter().position(|b| *b == b'/') {
-        None => None,
-        Some(slash) => fraction(&bytes[..slash], &bytes[slash + 1..]),
-    }
-}
-
 // The two numbers, if both are in their ranges.
 fn fraction(front: &[u8], back: &[u8]) -> Option<(i64, i64)>
-    ensures { fraction_of_parts front.now back.now ≡ option_map fraction_of_pair result }
+    ensures bounds { IfSome result (λ pair. IsBoundedFraction (fraction_of_pair pair)) }
+    ensures value { fraction_of_parts front.now back.now ≡ option_map fraction_of_pair result }
 {
     let Ok(p) = whole(front, -BILLION, BILLION) else {
         return None;
@@ -39,9 +32,32 @@ fn fraction(front: &[u8], back: &[u8]) -> Option<(i64, i64)>
     Some((p, q))
 }
 
+// Where the first slash stands.
+fn first_slash(bytes: &[u8]) -> Option<usize>
+    ensures { result ≡ position (λ b. b == 47) bytes.now }
+{
+    bytes.iter().position(|b| *b == b'/')
+}
+
+// The two numbers of `P/Q`, if both are in their ranges.
+fn parameter(bytes: &[u8]) -> Option<(i64, i64)>
+    ensures bounds { IfSome result (λ pair. IsBoundedFraction (fraction_of_pair pair)) }
+    ensures value { parameter_of bytes.now ≡ option_map fraction_of_pair result }
+{
+    match first_slash(bytes) {
+        Some(slash) => {
+            let (front, _) = bytes.split_at(slash);
+            let (_, back) = bytes.split_at(slash + 1);
+            fraction(front, back)
+        }
+        None => None,
+    }
+}
+
 // What two words ask for, if they have the form of a command.
 fn two_words(first: &[u8], second: &[u8]) -> Option<Request>
-    ensures { two_words first.now second.now ≡ option_map command_of_request result }
+    ensures bounds { IfSome result IsBoundedRequest }
+    ensures value { two_words first.now second.now ≡ option_map command_of_request result }
 {
     if first != b"at".as_slice() {
         return None;
@@ -52,7 +68,8 @@ fn two_words(first: &[u8], second: &[u8]) -> Option<Request>
 
 /// What the words ask for, if they have the form of a command.
 pub fn read_words(words: &[String]) -> Option<Request>
-    ensures { command_of (word_bytes words.now) ≡ option_map command_of_request result }
+    ensures bounds { IfSome result IsBoundedRequest }
+    ensures value { command_of (word_bytes words.now) ≡ option_map command_of_request result }
 {
     match words {
         [first, second] => two_words(first.as_bytes(), second.as_bytes()),
