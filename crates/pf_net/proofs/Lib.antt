@@ -1,4 +1,4 @@
-pub mod Capacity
+pub mod CapacityBounds
 pub mod LineSums
 pub mod Fronts
 pub mod FirstRefusal

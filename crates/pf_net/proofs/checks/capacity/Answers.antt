@@ -1,7 +1,7 @@
 use Rattle.std.proofs.Common.{◌≡◌, arith}
 use Rattle.std.proofs.lemmas.Int.{ints}
 use Rattle.pf_rat.proofs.Products.{comes_back}
-use Rattle.pf_net.proofs.Capacity.{short}
+use Rattle.pf_net.proofs.CapacityBounds.{short}
 use Rattle.pf_net.proofs.checks.capacity.Goals as goal
 
 pub overflow_add-result : goal.overflow_add-result

@@ -5,7 +5,7 @@ use Rattle.pf_model.specs.Network.{Network, IsInInterval, capacity_at}
 use Rattle.pf_model.specs.Fraction.{IsBoundedFraction}
 use Rattle.pf_frame.specs.Numbers.{IsBounded}
 use Rattle.pf_net.specs.Limits.{IsBuilt, graph_of}
-use Rattle.pf_net.proofs.Capacity.{bounded_capacities}
+use Rattle.pf_net.proofs.CapacityBounds.{bounded_capacities}
 use Rattle.pf_net.proofs.net.Net.caps_at.Goals as goal
 
 bounded : (net : Network) (x : Fraction) (caps : List ℤ) → IsBuilt net → IsInInterval net x → IsBoundedFraction x →
