@@ -1,7 +1,6 @@
 -- The network of the bytes, the point, and what the bytes then ask.
-use Rattle.std.proofs.Common.{◌≡◌, ℕ, ◌+◌, ◌<◌, ◌≤◌, ◌^◌, Bool, true, false, List, [], ◌∷◌, length, Some, None, Result, Ok, Err, refl, sym, ap, ◌∙◌, inl, inr, arith}
-use Rattle.std.specs.Prelude.{◌⊎◌, ◌||◌, pos, ◌≤ℤ◌}
-use Rattle.std.proofs.lemmas.Int.{ints}
+use Rattle.std.proofs.Common.{◌≡◌, ℕ, ◌+◌, ◌≤◌, ◌^◌, Bool, true, false, List, [], ◌∷◌, length, Result, Ok, Err, refl, sym, ◌∙◌, inl, inr, arith}
+use Rattle.std.specs.Prelude.{◌⊎◌, ◌||◌}
 use Rattle.pf_model.specs.Fraction.{Fraction, IsParameter, IsBelow, IsEqual, is_below}
 use Rattle.pf_model.specs.Network.{Network}
 use Rattle.pf_model.specs.Answer.{Point}
@@ -12,7 +11,7 @@ use Rattle.pf_text.specs.declared.Refusal.TheVariants.{Text, Outside}
 use Rattle.pf_text.specs.Lines.{Line, lines_from}
 use Rattle.pf_text.specs.Kinds.{Accepted, problem_of_lines, problem_of}
 use Rattle.pf_text.specs.Par.{par}
-use Rattle.pf_text.specs.Asked.{at, Problem, network, is_outside, problem_for}
+use Rattle.pf_text.specs.Asked.{at, network, is_outside}
 use Rattle.pf_text.proofs.AskedLemmas.{asked_bad, asked_behind, asked_refused, asked_accepted, problem_for_at, problem_for_at_bad}
 use Rattle.pf_text.proofs.ParLaw.{accepted_is_monotone}
 use Rattle.pf_lines.specs.Places.{Place, lines_left}
@@ -39,8 +38,10 @@ both_false false false f g = refl
 pub found_outside : (x y : Fraction) (net : Network) → IsParameter x → IsParameter y → IsParameter net.low → IsParameter net.high → IsEqual y x
     → IsBelow y net.low ⊎ IsBelow net.high y → is_outside x net ≡ true
 found_outside x y net px py pl ph e out = either_true (is_below x net.low) (is_below net.high x)
-    (elim out [ inl below ↦ inl ((below_test x net.low).1 (equal_below x y net.low px py pl (sym e) below))
-      | inr above ↦ inr ((below_test net.high x).1 (below_equal net.high y x ph py px above e)) ])
+    (elim out [
+      | inl below ↦ inl ((below_test x net.low).1 (equal_below x y net.low px py pl (sym e) below))
+      | inr above ↦ inr ((below_test net.high x).1 (below_equal net.high y x ph py px above e))
+    ])
 
 pub found_inside : (x y : Fraction) (net : Network) → IsParameter x → IsParameter y → IsParameter net.low → IsParameter net.high → IsEqual y x
     → (IsBelow y net.low ⊎ IsBelow net.high y → ⊥) → is_outside x net ≡ false

@@ -8,10 +8,11 @@ use Rattle.std.proofs.lemmas.Bool.Decides.{nat_tests}
 use Rattle.pf_model.specs.Fraction.{IsBoundedFraction}
 use Rattle.pf_text.specs.Numbers.{natural_of, whole_of}
 use Rattle.pf_text.specs.Par.{billion}
-use Rattle.pf_text.specs.Asked.{natural_within, integer_within, fraction_of_numbers, two_words, command_of}
+use Rattle.pf_text.specs.Asked.{natural_within, integer_within, fraction_of_numbers, at, two_words, command_of}
 use Rattle.pf_text.proofs.NumbersLemmas.{whole_of-minus, whole_of-plain, natural_of-others}
 use Rattle.pf_text.proofs.WordsLemmas.{fraction_of_parts, command_of_no_word, command_of_one, command_of_two, command_of_many}
-use Rattle.pf_top.specs.Words.{word_bytes}
+use Rattle.pf_top.specs.declared.words.Request.{Request}
+use Rattle.pf_top.specs.Words.{word_bytes, fraction_of_request, command_of_request}
 use Rattle.std.specs.String.{string_bytes}
 use Rattle.std.specs.declared.string.String.{String}
 use Rattle.std.specs.declared.alloc.Global.{Global}
@@ -155,3 +156,9 @@ command_of_more [] more = absurd (omega (arith, more))
 command_of_more (a ∷ []) more = absurd (omega (arith, more))
 command_of_more (a ∷ b ∷ []) more = absurd (omega (arith, more))
 command_of_more (a ∷ b ∷ c ∷ words) more = command_of_many (string_bytes a) (string_bytes b) (string_bytes c) (map string_bytes words)
+
+-- ---- the command of a request
+
+pub command_of_parameter : (parameter : Option Request) → option_map at (option_map fraction_of_request parameter) ≡ option_map command_of_request parameter
+command_of_parameter None = refl
+command_of_parameter (Some request) = refl

@@ -1,24 +1,23 @@
 -- What stands after each way for a run to end.
-use Rattle.std.proofs.Common.{◌≡◌, ◌≢◌, ℕ, ◌+◌, ◌<◌, ◌≤◌, ◌^◌, Bool, true, false, List, [], ◌∷◌, ◌++◌, length, Option, Some, None, Result, Ok, Err, refl, sym, ap, ◌∙◌, inl, inr, arith}
+use Rattle.std.proofs.Common.{◌≡◌, ◌≢◌, ℕ, ◌+◌, ◌<◌, ◌≤◌, ◌^◌, List, [], ◌++◌, length, Option, Some, None, Result, Ok, Err, refl, ap, ◌∙◌, inl, inr, arith}
 use Rattle.std.proofs.lemmas.List.{append-nil, length-append}
-use Rattle.std.specs.Prelude.{ℤ, OnOk, OnErr, IfSome, is_some, ◌↔◌, ◌⊎◌}
+use Rattle.std.specs.Prelude.{OnOk, IfSome, ◌↔◌, ◌⊎◌}
 use Rattle.pf_io.specs.declared.device.Failed.{Failed}
 use Rattle.pf_io.specs.declared.device.Sink.{Ghosts as Sink}
 use Rattle.pf_io.specs.declared.device.Source.{Ghosts as Source}
 use Rattle.pf_io.specs.Faults.{Rose, HasCause}
-use Rattle.pf_io.specs.Told.{Gave, GaveCount, Took, IsFrontOf, NoneLeft, before_told, after_told, told_length}
+use Rattle.pf_io.specs.Told.{Gave, GaveCount, Took, IsFrontOf, NoneLeft, after_told, told_length}
 use Rattle.pf_model.specs.Fraction.{Fraction}
 use Rattle.pf_model.specs.Network.{Network}
 use Rattle.pf_model.specs.Answer.{Point}
 use Rattle.pf_text.specs.declared.Refusal.{Refusal}
 use Rattle.pf_text.specs.declared.Refusal.TheVariants as refusals
 use Rattle.pf_text.specs.Answers.{point_text}
-use Rattle.pf_text.specs.Asked.{Command, at, Problem, Asked, usage, refused, accepted, asked, command_of}
+use Rattle.pf_text.specs.Asked.{Command, at, Asked, usage, refused, accepted, asked, command_of}
 use Rattle.pf_text.proofs.AskedLemmas.{asked_usage, asked_something, asked_long}
 use Rattle.pf_top.specs.Answering.{IsRefused, IsMade}
-use Rattle.pf_top.specs.Words.{command_of_request}
+use Rattle.pf_top.specs.Words.{fraction_of_request, command_of_request}
 use Rattle.pf_top.specs.declared.words.Request.{Request}
-use Rattle.pf_top.specs.declared.words.Request.TheVariants.{At}
 use Rattle.pf_top.specs.Messages.{TookLine, ErrAfter, status_line}
 use Rattle.pf_top.specs.Running.{IsAnswerTo, IsNoTo, TookWhole, TookFront, Says, WasRead, SourceAfter, IsDue, IsRun}
 use Rattle.pf_top.specs.declared.status.Status.{Status}
@@ -88,7 +87,7 @@ is_due S so sn O oo on ask NoMemory says fault read wrote memory = absurd (memor
 
 source_after : {T : Type 0} (S : Source T) (so sn : T) (request : Request) (words : List (List ℕ)) (status : Status) → command_of words ≡ Some (command_of_request request)
     → WasRead S so sn status → SourceAfter S so sn (command_of words) status
-source_after S so sn (At p q) words status some was = rw some was
+source_after S so sn request words status some was = rw some was
 
 read_refused : {T : Type 0} (S : Source T) (so sn : T) (refusal : Refusal) → refusal ≢ refusals.TooLong → NoneLeft (S.left sn) → WasRead S so sn (Refused refusal)
 read_refused S so sn (refusals.Text bad) other ended = ended
@@ -184,32 +183,32 @@ never_no : (x : Fraction) (words : List (List ℕ)) (bytes : List ℕ) (net : Ne
     → ¬ IsNoTo (asked words bytes) (point_text net point)
 never_no x words bytes net point some m = rw (m.asks words some) (λ f. f)
 
-pub run_done : {T U : Type 0} (S : Source T) (so sn : T) (O : Sink U) (oo on : U) (p q : ℤ) (words : List (List ℕ)) (bytes : List ℕ) (net : Network) (point : Point)
-    → command_of words ≡ Some (command_of_request (At p q)) → Gave (S.left so) (S.left sn) bytes → NoneLeft (S.left sn) → S.faults so ≤ S.faults sn → O.faults oo ≤ O.faults on
-    → IsMade (record { p = p; q = q }) bytes net point → TookWhole O oo on (point_text net point) → IsRun S so sn O oo on words Done
-run_done S so sn O oo on p q words bytes net point some gave ended later later' m took =
-    let x : Fraction = record { p = p; q = q } in
+pub run_done : {T U : Type 0} (S : Source T) (so sn : T) (O : Sink U) (oo on : U) (request : Request) (words : List (List ℕ)) (bytes : List ℕ) (net : Network) (point : Point)
+    → command_of words ≡ Some (command_of_request request) → Gave (S.left so) (S.left sn) bytes → NoneLeft (S.left sn) → S.faults so ≤ S.faults sn → O.faults oo ≤ O.faults on
+    → IsMade (fraction_of_request request) bytes net point → TookWhole O oo on (point_text net point) → IsRun S so sn O oo on words Done
+run_done S so sn O oo on request words bytes net point some gave ended later later' m took =
+    let x : Fraction = fraction_of_request request in
     let says : Says O oo on (asked words bytes) Done = (point_text net point, right_point x words bytes net point some m, never_no x words bytes net point some m, took) in
     record {
       bytes = bytes;
       told = told_whole (S.left so) (S.left sn) bytes gave ended;
       says = says;
-      source = source_after S so sn (At p q) words Done some ended;
+      source = source_after S so sn request words Done some ended;
       source_count = later;
       out_count = later';
       complete = λ read wrote memory. is_due S so sn O oo on (asked words bytes) Done says (λ e. absurd cc) read wrote memory;
     }
 
-pub run_write_fault : {T U : Type 0} (S : Source T) (so sn : T) (O : Sink U) (oo on : U) (p q : ℤ) (words : List (List ℕ)) (bytes : List ℕ) (net : Network) (point : Point)
-    → command_of words ≡ Some (command_of_request (At p q)) → Gave (S.left so) (S.left sn) bytes → NoneLeft (S.left sn) → S.faults so ≤ S.faults sn → O.faults oo ≤ O.faults on
-    → IsMade (record { p = p; q = q }) bytes net point → Rose (O.faults oo) (O.faults on) → TookFront O oo on (point_text net point) → IsRun S so sn O oo on words WriteFault
-run_write_fault S so sn O oo on p q words bytes net point some gave ended later later' m rose took =
-    let x : Fraction = record { p = p; q = q } in
+pub run_write_fault : {T U : Type 0} (S : Source T) (so sn : T) (O : Sink U) (oo on : U) (request : Request) (words : List (List ℕ)) (bytes : List ℕ) (net : Network) (point : Point)
+    → command_of words ≡ Some (command_of_request request) → Gave (S.left so) (S.left sn) bytes → NoneLeft (S.left sn) → S.faults so ≤ S.faults sn → O.faults oo ≤ O.faults on
+    → IsMade (fraction_of_request request) bytes net point → Rose (O.faults oo) (O.faults on) → TookFront O oo on (point_text net point) → IsRun S so sn O oo on words WriteFault
+run_write_fault S so sn O oo on request words bytes net point some gave ended later later' m rose took =
+    let x : Fraction = fraction_of_request request in
     record {
       bytes = bytes;
       told = told_whole (S.left so) (S.left sn) bytes gave ended;
       says = (point_text net point, right_point x words bytes net point some m, rose, took);
-      source = source_after S so sn (At p q) words WriteFault some ended;
+      source = source_after S so sn request words WriteFault some ended;
       source_count = later;
       out_count = later';
       complete = λ read wrote memory. absurd (wrote rose);

@@ -1,6 +1,6 @@
 -- What a network and a point have to do with the bytes that they are made from.
 use Rattle.std.specs.Prelude.{◌≡◌, ◌≢◌, ℕ, ◌+◌, List, [], Some, Ok}
-use Rattle.pf_model.specs.Fraction.{Fraction, lowest, IsBoundedFraction}
+use Rattle.pf_model.specs.Fraction.{Fraction, lowest}
 use Rattle.pf_model.specs.Network.{Network}
 use Rattle.pf_model.specs.Answer.{Point, IsPointShape}
 use Rattle.pf_model.specs.Curve.{IsPoint}
@@ -9,7 +9,7 @@ use Rattle.pf_text.specs.declared.Refusal.TheVariants.{TooLong}
 use Rattle.pf_text.specs.Lines.{lines_from}
 use Rattle.pf_text.specs.Kinds.{Accepted, problem_of}
 use Rattle.pf_text.specs.Par.{par}
-use Rattle.pf_text.specs.Asked.{Command, at, Problem, network, Asked, refused, accepted, asked, command_of}
+use Rattle.pf_text.specs.Asked.{Command, at, network, Asked, refused, accepted, asked, command_of}
 
 -- all words that ask for the command ask this of the bytes
 abbrev pub Asks : Command → List ℕ → Asked → Type 0

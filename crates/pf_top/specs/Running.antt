@@ -1,10 +1,9 @@
 -- What stands after a run: what its status says of what was asked, and what it did with the source and the sink of answers.
-use Rattle.std.specs.Prelude.{◌≡◌, ◌≢◌, ◌⊎◌, ℕ, ◌+◌, ◌^◌, ◌≤◌, List, length, Option, Some, None, IfSome}
+use Rattle.std.specs.Prelude.{◌≡◌, ◌≢◌, ◌⊎◌, ℕ, ◌+◌, ◌^◌, ◌≤◌, List, Option, Some, None, IfSome}
 use Rattle.pf_io.specs.declared.device.Source.{Ghosts as Source}
 use Rattle.pf_io.specs.declared.device.Sink.{Ghosts as Sink}
 use Rattle.pf_io.specs.Faults.{Rose}
 use Rattle.pf_io.specs.Told.{GaveCount, Took, IsFrontOf, NoneLeft, after_told, told_length}
-use Rattle.pf_text.specs.declared.Refusal.{Refusal}
 use Rattle.pf_text.specs.declared.Refusal.TheVariants.{TooLong}
 use Rattle.pf_text.specs.Asked.{Command, at, Asked, usage, refused, accepted, asked, command_of}
 use Rattle.pf_text.specs.Right.{IsRight, SaysNo}

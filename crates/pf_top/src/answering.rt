@@ -1,11 +1,12 @@
 // The answer to a request.
 ghost use Rattle.std.specs.Prelude.{◌≡◌, ◌^◌, ◌≤◌, length, true, false, Err, IfOk};
-ghost use Rattle.pf_model.specs.Fraction.{IsParameter, IsBoundedFraction};
+ghost use Rattle.pf_model.specs.Fraction.{Fraction, IsParameter, IsEqual, lowest};
 ghost use Rattle.pf_text.specs.declared.Refusal.{Refusal};
 ghost use Rattle.pf_text.specs.Asked.{at, is_outside};
-ghost use Rattle.pf_model.specs.Fraction.{Fraction};
+ghost use Rattle.pf_top.specs.Words.{fraction_of_request, command_of_request, IsBoundedRequest};
 ghost use Rattle.pf_top.specs.Answering.{IsRefused, IsNetworkOf, IsPointAt, IsMade};
 
+use crate::words::Request;
 use pf_curve::{AtBad, Point, at};
 use pf_lines::Lines;
 use pf_net::Net;
@@ -39,17 +40,27 @@ fn network(alloc: Global, bytes: &[u8]) -> Result<Net, Stop>
     }
 }
 
+// The parameter `p/q`.
+fn rational(request: &Request) -> Rat
+    requires { IsBoundedRequest request.now }
+    ensures value { result ≡ lowest (fraction_of_request request.now) }
+    ensures equal { IsEqual result (fraction_of_request request.now) }
+    ensures parameter { IsParameter result }
+{
+    Rat::new(i128::from(request.p), i128::from(request.q))
+}
+
 // The smallest least cut at the parameter `p/q`, and a greatest flow there.
-fn point(alloc: Global, net: &Net, p: i64, q: i64) -> Result<Point, Stop>
-    requires bounds { IsBoundedFraction (record { p = p; q = q }) }
+fn point(alloc: Global, net: &Net, request: &Request) -> Result<Point, Stop>
+    requires bounds { IsBoundedRequest request.now }
     requires low { IsParameter net.now.low }
     requires high { IsParameter net.now.high }
-    ensures point { IfOk result (IsPointAt (record { p = p; q = q }) net.now) }
-    ensures inside { IfOk result (λ _. is_outside (record { p = p; q = q }) net.now ≡ false) }
+    ensures point { IfOk result (IsPointAt (fraction_of_request request.now) net.now) }
+    ensures inside { IfOk result (λ _. is_outside (fraction_of_request request.now) net.now ≡ false) }
     ensures refused { (refusal : Refusal) → result ≡ Err (Stop.Refused refusal)
-        → (refusal ≡ Refusal.Outside) × (is_outside (record { p = p; q = q }) net.now ≡ true) }
+        → (refusal ≡ Refusal.Outside) × (is_outside (fraction_of_request request.now) net.now ≡ true) }
 {
-    let parameter = Rat::new(i128::from(p), i128::from(q));
+    let parameter = rational(request);
     match at(alloc, net, &parameter) {
         Ok(point) => Ok(point),
         Err(AtBad::Outside) => Err(Stop::Refused(Refusal::Outside)),
@@ -58,13 +69,13 @@ fn point(alloc: Global, net: &Net, p: i64, q: i64) -> Result<Point, Stop>
 }
 
 /// The network, and the answer at a parameter.
-pub fn answer_at(alloc: Global, p: i64, q: i64, bytes: &[u8]) -> Result<(Net, Point), Stop>
+pub fn answer_at(alloc: Global, request: &Request, bytes: &[u8]) -> Result<(Net, Point), Stop>
     requires short { length bytes.now ≤ 2 ^ 29 }
-    requires bounds { IsBoundedFraction (record { p = p; q = q }) }
-    ensures made { IfOk result (λ made. IsMade (record { p = p; q = q }) bytes.now made.0 made.1) }
-    ensures refused { (refusal : Refusal) → result ≡ Err (Stop.Refused refusal) → IsRefused (at (record { p = p; q = q })) bytes.now refusal }
+    requires bounds { IsBoundedRequest request.now }
+    ensures made { IfOk result (λ made. IsMade (fraction_of_request request.now) bytes.now made.0 made.1) }
+    ensures refused { (refusal : Refusal) → result ≡ Err (Stop.Refused refusal) → IsRefused (command_of_request request.now) bytes.now refusal }
 {
     let net = network(alloc, bytes)?;
-    let point = point(alloc, &net, p, q)?;
+    let point = point(alloc, &net, request)?;
     Ok((net, point))
 }

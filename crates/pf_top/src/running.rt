@@ -2,12 +2,13 @@
 ghost use Rattle.std.specs.Prelude.{◌≡◌, ℕ, List, ◌↔◌, ◌≤◌, Some, None, OnOk};
 ghost use Rattle.pf_model.specs.Answer.{IsPointShape};
 ghost use Rattle.pf_io.specs.Faults.{HasCause};
+ghost use Rattle.pf_io.specs.Told.{IsFrontOf, after_told};
 ghost use Rattle.pf_text.specs.Answers.{point_text};
 ghost use Rattle.pf_text.specs.Asked.{command_of};
 ghost use Rattle.pf_par.specs.Writing.{IsNonnegative};
 ghost use Rattle.pf_top.specs.Words.{word_bytes, command_of_request, IsBoundedRequest};
 ghost use Rattle.pf_top.specs.Messages.{ErrAfter};
-ghost use Rattle.pf_top.specs.Running.{TookWhole, TookFront, IsRun};
+ghost use Rattle.pf_top.specs.Running.{TookWhole, IsRun};
 
 use crate::answering::{Stop, answer_at};
 use crate::messages::tell;
@@ -28,7 +29,8 @@ fn hand_out<O: Sink>(out: &mut O, net: &Net, point: &Point) -> Result<(), Failed
     requires shape { IsPointShape net.now point.now }
     requires amounts { IsNonnegative point.now.flow }
     ensures whole { OnOk result (TookWhole O.Sink out.old out.new (point_text net.now point.now)) }
-    ensures front { TookFront O.Sink out.old out.new (point_text net.now point.now) }
+    ensures grows { IsFrontOf (O.taken out.old) (O.taken out.new) }
+    ensures front { IsFrontOf (O.taken out.new) (after_told (O.taken out.old) (point_text net.now point.now)) }
     ensures cause { HasCause (O.faults out.old) (O.faults out.new) result }
 {
     let mut printer = Printer::new(out);
@@ -37,14 +39,9 @@ fn hand_out<O: Sink>(out: &mut O, net: &Net, point: &Point) -> Result<(), Failed
 }
 
 // The run with a command, up to its status.
-fn work<S: Source, O: Sink>(
-    alloc: Global,
-    request: Request,
-    source: &mut S,
-    out: &mut O,
-) -> Status
-    requires { IsBoundedRequest request }
-    ensures { (words : List (List ℕ)) → command_of words ≡ Some (command_of_request request)
+fn work<S: Source, O: Sink>(alloc: Global, request: &Request, source: &mut S, out: &mut O) -> Status
+    requires { IsBoundedRequest request.now }
+    ensures { (words : List (List ℕ)) → command_of words ≡ Some (command_of_request request.now)
         → IsRun S.Source source.old source.new O.Sink out.old out.new words result }
 {
     let bytes = match read_all(alloc, source, LIMIT) {
@@ -53,8 +50,7 @@ fn work<S: Source, O: Sink>(
         Err(ReadEnd::TooLong) => return Status::Refused(Refusal::TooLong),
         Err(ReadEnd::NoMemory) => return Status::NoMemory,
     };
-    let Request::At(p, q) = request;
-    match answer_at(alloc, p, q, &bytes) {
+    match answer_at(alloc, request, &bytes) {
         Ok((net, point)) => match hand_out(out, &net, &point) {
             Ok(()) => Status::Done,
             Err(_) => Status::WriteFault,
@@ -83,7 +79,7 @@ pub fn run<S: Source, O: Sink, E: Sink>(
 {
     let status = match read_words(words) {
         None => Status::Usage,
-        Some(request) => work(alloc, request, source, out),
+        Some(request) => work(alloc, &request, source, out),
     };
     tell(status, err);
     status

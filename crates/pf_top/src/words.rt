@@ -1,27 +1,26 @@
 // Which command words ask for.
 ghost use Rattle.std.specs.Prelude.{◌≡◌, IfSome, ◌==◌};
-ghost use Rattle.pf_model.specs.Fraction.{IsBoundedFraction};
 ghost use Rattle.std.specs.List.{position};
 ghost use Rattle.std.specs.Option.{option_map};
 ghost use Rattle.pf_text.specs.Asked.{parameter_of, two_words, command_of};
 ghost use Rattle.pf_text.proofs.WordsLemmas.{fraction_of_parts};
-ghost use Rattle.pf_top.specs.Words.{word_bytes, fraction_of_pair, command_of_request, IsBoundedRequest};
+ghost use Rattle.pf_top.specs.Words.{word_bytes, fraction_of_request, command_of_request, IsBoundedRequest};
 
 use pf_lines::whole;
 
-/// What words ask for.
-#[derive(Clone, Copy)]
-pub enum Request {
-    /// The parameter `p/q`.
-    At(i64, i64),
+/// What words ask for: the answer at the parameter `p/q`.
+#[derive(Drop)]
+pub struct Request {
+    pub p: i64,
+    pub q: i64,
 }
 
 const BILLION: i64 = 1_000_000_000;
 
 // The two numbers, if both are in their ranges.
-fn fraction(front: &[u8], back: &[u8]) -> Option<(i64, i64)>
-    ensures bounds { IfSome result (λ pair. IsBoundedFraction (fraction_of_pair pair)) }
-    ensures value { fraction_of_parts front.now back.now ≡ option_map fraction_of_pair result }
+fn fraction(front: &[u8], back: &[u8]) -> Option<Request>
+    ensures bounds { IfSome result IsBoundedRequest }
+    ensures value { fraction_of_parts front.now back.now ≡ option_map fraction_of_request result }
 {
     let Ok(p) = whole(front, -BILLION, BILLION) else {
         return None;
@@ -29,7 +28,7 @@ fn fraction(front: &[u8], back: &[u8]) -> Option<(i64, i64)>
     let Ok(q) = whole(back, 1, BILLION) else {
         return None;
     };
-    Some((p, q))
+    Some(Request { p, q })
 }
 
 // Where the first slash stands.
@@ -40,9 +39,9 @@ fn first_slash(bytes: &[u8]) -> Option<usize>
 }
 
 // The two numbers of `P/Q`, if both are in their ranges.
-fn parameter(bytes: &[u8]) -> Option<(i64, i64)>
-    ensures bounds { IfSome result (λ pair. IsBoundedFraction (fraction_of_pair pair)) }
-    ensures value { parameter_of bytes.now ≡ option_map fraction_of_pair result }
+fn parameter(bytes: &[u8]) -> Option<Request>
+    ensures bounds { IfSome result IsBoundedRequest }
+    ensures value { parameter_of bytes.now ≡ option_map fraction_of_request result }
 {
     match first_slash(bytes) {
         Some(slash) => {
@@ -62,8 +61,7 @@ fn two_words(first: &[u8], second: &[u8]) -> Option<Request>
     if first != b"at".as_slice() {
         return None;
     }
-    let (p, q) = parameter(second)?;
-    Some(Request::At(p, q))
+    parameter(second)
 }
 
 /// What the words ask for, if they have the form of a command.
