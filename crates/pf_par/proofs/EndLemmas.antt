@@ -53,8 +53,13 @@ not_below_zero z h = grind (arith, ints)
 
 no_reason : (net : Network) (i : ℕ) (arc : AffineArc) → IsMonotoneArc net arc → arc_refusal net i arc ≡ None
 no_reason net i arc is =
-    rw (lt-leb net.nodes arc.tail is.tail, lt-leb net.nodes arc.head is.head, is.slope,
-        not_below_zero (capacity_at net.low arc) is.low, not_below_zero (capacity_at net.high arc) is.high)
+    rw (
+      lt-leb net.nodes arc.tail is.tail,
+      lt-leb net.nodes arc.head is.head,
+      is.slope,
+      not_below_zero (capacity_at net.low arc) is.low,
+      not_below_zero (capacity_at net.high arc) is.high,
+    )
     refl
 
 no_reasons : (net : Network) (i : ℕ) (arcs : List AffineArc) → All (IsMonotoneArc net) arcs → arcs_refusal net i arcs ≡ None

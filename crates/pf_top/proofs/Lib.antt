@@ -1,0 +1,3 @@
+pub mod RequestLemmas
+pub mod AnsweringLemmas
+pub mod RunningLemmas

@@ -1,0 +1,11 @@
+use Rattle.std.proofs.Common.{sym, ◌∙◌}
+use Rattle.pf_text.proofs.WordsLemmas.{parameter_of_parts, parameter_of_no_slash}
+use Rattle.pf_top.proofs.words.parameter.Goals as goal
+
+pub returns-in-None-clause-value : goal.returns-in-None-clause-value
+returns-in-None-clause-value c = parameter_of_no_slash c.args.bytes.now (sym c.first_slash.ensures ∙ c.in-None.is)
+
+pub returns-in-Some-clause-value : goal.returns-in-Some-clause-value
+returns-in-Some-clause-value c =
+    parameter_of_parts c.args.bytes.now c.in-Some.slash (sym c.first_slash.ensures ∙ c.in-Some.is)
+    ∙ rw (← c.split_at.ensures.front, ← c.split_at-in-Some.ensures.back) c.fraction.ensures.value

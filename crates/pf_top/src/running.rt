@@ -1,0 +1,86 @@
+// From the words and the bytes of a source to the bytes of a sink and a status.
+ghost use Rattle.std.specs.Prelude.{◌≡◌, ℕ, List, ◌↔◌, ◌≤◌, Some, None, OnOk};
+ghost use Rattle.pf_model.specs.Answer.{IsPointShape};
+ghost use Rattle.pf_io.specs.Faults.{HasCause};
+ghost use Rattle.pf_io.specs.Told.{IsFrontOf, after_told};
+ghost use Rattle.pf_text.specs.Answers.{point_text};
+ghost use Rattle.pf_text.specs.Asked.{command_of};
+ghost use Rattle.pf_par.specs.Writing.{IsNonnegative};
+ghost use Rattle.pf_top.specs.Words.{word_bytes, command_of_request, IsBoundedRequest};
+ghost use Rattle.pf_top.specs.Messages.{ErrAfter};
+ghost use Rattle.pf_top.specs.Running.{TookWhole, IsRun};
+
+use crate::answering::{Stop, answer_at};
+use crate::messages::tell;
+use crate::status::Status;
+use crate::words::{Request, read_words};
+use pf_curve::Point;
+use pf_io::{Failed, Printer, ReadEnd, Sink, Source, read_all};
+use pf_net::Net;
+use pf_par::write_at;
+use pf_text::Refusal;
+use std::alloc::Global;
+
+/// The most bytes of an input.
+const LIMIT: usize = 1 << 29;
+
+// Hands the text of the answer to the sink.
+fn hand_out<O: Sink>(out: &mut O, net: &Net, point: &Point) -> Result<(), Failed>
+    requires shape { IsPointShape net.now point.now }
+    requires amounts { IsNonnegative point.now.flow }
+    ensures whole { OnOk result (TookWhole O.Sink out.old out.new (point_text net.now point.now)) }
+    ensures grows { IsFrontOf (O.taken out.old) (O.taken out.new) }
+    ensures front { IsFrontOf (O.taken out.new) (after_told (O.taken out.old) (point_text net.now point.now)) }
+    ensures cause { HasCause (O.faults out.old) (O.faults out.new) result }
+{
+    let mut printer = Printer::new(out);
+    write_at(&mut printer, net, point)?;
+    printer.finish()
+}
+
+// The run with a command, up to its status.
+fn work<S: Source, O: Sink>(alloc: Global, request: &Request, source: &mut S, out: &mut O) -> Status
+    requires { IsBoundedRequest request.now }
+    ensures { (words : List (List ℕ)) → command_of words ≡ Some (command_of_request request.now)
+        → IsRun S.Source source.old source.new O.Sink out.old out.new words result }
+{
+    let bytes = match read_all(alloc, source, LIMIT) {
+        Ok(bytes) => bytes,
+        Err(ReadEnd::Failed) => return Status::ReadFault,
+        Err(ReadEnd::TooLong) => return Status::Refused(Refusal::TooLong),
+        Err(ReadEnd::NoMemory) => return Status::NoMemory,
+    };
+    match answer_at(alloc, request, &bytes) {
+        Ok((net, point)) => match hand_out(out, &net, &point) {
+            Ok(()) => Status::Done,
+            Err(_) => Status::WriteFault,
+        },
+        Err(Stop::Refused(refusal)) => Status::Refused(refusal),
+        Err(Stop::NoMemory) => Status::NoMemory,
+    }
+}
+
+/// Reads all that the source has left, and writes the answer that the words ask for, or a line that says why there is none.
+pub fn run<S: Source, O: Sink, E: Sink>(
+    alloc: Global,
+    words: &[String],
+    source: &mut S,
+    out: &mut O,
+    err: &mut E,
+) -> Status
+    // The words decide alone whether they are a command.
+    ensures usage { (result ≡ Status.Usage) ↔ (command_of (word_bytes words.now) ≡ None) }
+
+    // What the status says, and what source and sink then have; every text that is asked for is answered.
+    ensures run { IsRun S.Source source.old source.new O.Sink out.old out.new (word_bytes words.now) result }
+
+    ensures err { ErrAfter E.Sink err.old err.new result }
+    ensures err_count { E.faults err.old ≤ E.faults err.new }
+{
+    let status = match read_words(words) {
+        None => Status::Usage,
+        Some(request) => work(alloc, &request, source, out),
+    };
+    tell(status, err);
+    status
+}
