@@ -9,7 +9,7 @@ use Rattle.pf_text.specs.declared.TextBad.{TextBad}
 use Rattle.pf_text.specs.declared.TextBad.TheVariants.{Syntax, Range, Count, WrongKind}
 use Rattle.pf_text.specs.Lines.{Line}
 use Rattle.pf_text.specs.Numbers.{whole_of}
-use Rattle.pf_text.specs.Kinds.{Kind, State, Accepted, word, numbers_by, are_in_range, is_wrong_kind, and_then, refuse_if, rule_at, state_of_header, header, end_line}
+use Rattle.pf_text.specs.Kinds.{State, word, numbers_by, are_in_range, is_wrong_kind, and_then, refuse_if, rule_at, state_of_header, header, end_line}
 use Rattle.pf_text.specs.Par.{Given, par, par_header, node_count, arc_count, network_by}
 use Rattle.pf_text.proofs.KindsLemmas.{header_wrong_kind, header_syntax, end_count}
 use Rattle.pf_lines.specs.declared.numbers.Bad.{Bad}
@@ -93,7 +93,7 @@ pub header_state : (line : Line) (n m : ℤ) (arcs : List AffineArc) → false �
     })
 header_state line n m arcs right fields e empty =
     let numbers : Ok (n ∷ m ∷ []) ≡ ranged_numbers par_header (get_or line.fields 2 [] ∷ get_or line.fields 3 [] ∷ []) =
-        ap (λ r. paired r (Ok [])) e ∙ two_numbers (pos 2) (pos 1000) (pos 0) (pos 10000) (get_or line.fields 2 []) (get_or line.fields 3 []) in
+    ap (λ r. paired r (Ok [])) e ∙ two_numbers (pos 2) (pos 1000) (pos 0) (pos 10000) (get_or line.fields 2 []) (get_or line.fields 3 []) in
     let f = ranged_fits par_header (get_or line.fields 2 [] ∷ get_or line.fields 3 [] ∷ []) (n ∷ m ∷ []) numbers in
     let n_low = f.0 in
     header_accepted line n m right fields e
@@ -107,7 +107,7 @@ end_too_few state line n same few = end_count par state line few ∙ ap (λ m. E
 
 end_is : (state : State Given) (line : Line) (n : ℕ) → n ≡ line.number → arc_count state.header_numbers ≤ state.counted_lines
     → end_line par state line ≡ and_then (rule_at n (network_by (node_count state.header_numbers) state.given.interval state.given.source state.given.sink state.given.arcs))
-        (λ net. Ok (record { problem = net; rest = line.rest; line = line.number }))
+    (λ net. Ok (record { problem = net; rest = line.rest; line = line.number }))
 unfolding end_line par
 end_is state line n same all = rw (le-ltb state.counted_lines (arc_count state.header_numbers) all, same) refl
 
@@ -123,7 +123,7 @@ pub end_agrees : (state : State Given) (line : Line) (n : ℕ) (result : Result 
 end_agrees state line n result same all e =
     rw (end_is state line n same all)
     (agrees_through (rule_at n (network_by (node_count state.header_numbers) state.given.interval state.given.source state.given.sink state.given.arcs)) (λ net. net)
-        (λ net. record { problem = net; rest = line.rest; line = line.number }) result e)
+    (λ net. record { problem = net; rest = line.rest; line = line.number }) result e)
 
 pub good_end : (state : State Given) (line : Line) → arc_count state.header_numbers ≤ state.counted_lines → IsGoodEndLine state line
     → IsGoodEnd (node_count state.header_numbers) state.given.interval state.given.source state.given.sink state.given.arcs

@@ -1,6 +1,6 @@
 -- What a line makes of what was given, by what the code tests.
-use Rattle.std.proofs.Common.{◌≡◌, ◌≢◌, ℕ, ◌+◌, Bool, true, false, cond, eqb, not, List, [], ◌∷◌, ◌++◌, length, get_or, Option, Some, None, Result, Ok, Err, refl, sym, ap, subst, ◌∙◌, arith, length-append}
-use Rattle.std.specs.Prelude.{ℤ, pos, neg_ℤ, ◌≤ℤ◌, is_some}
+use Rattle.std.proofs.Common.{◌≡◌, ◌≢◌, ℕ, ◌+◌, Bool, true, false, eqb, not, List, [], ◌∷◌, ◌++◌, length, get_or, Option, Some, None, Result, Ok, Err, refl, sym, ap, ◌∙◌, arith, length-append}
+use Rattle.std.specs.Prelude.{ℤ, pos, is_some}
 use Rattle.std.proofs.lemmas.Bool.{eq-eqb, eqb-true}
 use Rattle.pf_model.specs.declared.AffineArc.{AffineArc}
 use Rattle.pf_model.specs.Fraction.{is_below}
@@ -10,8 +10,8 @@ use Rattle.pf_text.specs.declared.TextBad.{TextBad}
 use Rattle.pf_text.specs.declared.TextBad.TheVariants.{Count, Rule}
 use Rattle.pf_text.specs.Lines.{Line}
 use Rattle.pf_text.specs.Numbers.{whole_of}
-use Rattle.pf_text.specs.Kinds.{State, FieldPattern, number, numbers_by, are_in_range, and_then, rule_at, step}
-use Rattle.pf_text.specs.Par.{ParameterInterval, Given, par, billion, node_count, arc_count, node_index, node, coefficient, denominator, broken_if, is_given, fraction, interval_form, source_form, sink_form, arc_form, interval_rules, source_rules, sink_rules, arc_rules, arc_rules_by}
+use Rattle.pf_text.specs.Kinds.{State, FieldPattern, and_then, rule_at, step}
+use Rattle.pf_text.specs.Par.{ParameterInterval, Given, par, node_count, arc_count, node_index, node, coefficient, denominator, broken_if, is_given, fraction, interval_form, source_form, sink_form, arc_form, interval_rules, source_rules, sink_rules, arc_rules, arc_rules_by}
 use Rattle.pf_lines.specs.declared.numbers.Bad.{Bad}
 use Rattle.pf_lines.specs.declared.numbers.Bad.TheVariants.{NotNumber, OutOfRange}
 use Rattle.pf_lines.specs.Values.{within_range}
@@ -59,9 +59,9 @@ pub interval_given : (state : State Given) (line : Line) (n : ℕ) (lp lq hp hq 
 interval_given state line n lp lq hp hq interval answer form same e is rules =
     interval_judged state line (Ok (lp ∷ lq ∷ hp ∷ hq ∷ [])) form e
     ∙ by_rules n line.number (interval_rules (lp ∷ lq ∷ hp ∷ hq ∷ []) state.given) (record state.given { interval = Some interval })
-        (λ given. record { header_numbers = state.header_numbers; counted_lines = state.counted_lines; given = given }) answer same
-        (rules (Ok (record state.given { interval = Some interval }))
-        ∙ ap (λ (i : ParameterInterval). broken_if (is_some state.given.interval) Repeated (broken_if (not (is_below i.low i.high)) Interval (Ok (record state.given { interval = Some i })))) is)
+    (λ given. record { header_numbers = state.header_numbers; counted_lines = state.counted_lines; given = given }) answer same
+    (rules (Ok (record state.given { interval = Some interval }))
+    ∙ ap (λ (i : ParameterInterval). broken_if (is_some state.given.interval) Repeated (broken_if (not (is_below i.low i.high)) Interval (Ok (record state.given { interval = Some i })))) is)
 
 -- ---- the source and the sink
 
@@ -77,7 +77,7 @@ source_judged : (state : State Given) (line : Line) (v : Result ℤ Bad) → Has
 source_judged state line v form e =
     step_source state line (get_or line.fields 1 []) form
     ∙ ap (state_of_ranged par state line.number (source_form state.header_numbers))
-        (sym (one_number (pos 1) (pos (node_count state.header_numbers)) (get_or line.fields 1 [])) ∙ ap (λ r. joined r (Ok [])) (sym e))
+    (sym (one_number (pos 1) (pos (node_count state.header_numbers)) (get_or line.fields 1 [])) ∙ ap (λ r. joined r (Ok [])) (sym e))
 
 pub source_refused : (state : State Given) (line : Line) (n : ℕ) (bad : Bad) → HasForm Source line.fields → n ≡ line.number → Err bad ≡ node_of state line
     → step par state line ≡ Err (number_refusal n bad)
@@ -91,16 +91,16 @@ pub source_given : (state : State Given) (line : Line) (n : ℕ) (v : ℤ) (inde
 source_given state line n v index answer form same e is rules =
     source_judged state line (Ok v) form e
     ∙ by_rules n line.number (source_rules (v ∷ []) state.given) (record state.given { source = Some index })
-        (λ given. record { header_numbers = state.header_numbers; counted_lines = state.counted_lines; given = given }) answer same
-        (rules (Ok (record state.given { source = Some index }))
-        ∙ ap (λ (i : ℕ). broken_if (is_some state.given.source) Repeated (broken_if (is_given state.given.sink i) Ends (Ok (record state.given { source = Some i })))) is)
+    (λ given. record { header_numbers = state.header_numbers; counted_lines = state.counted_lines; given = given }) answer same
+    (rules (Ok (record state.given { source = Some index }))
+    ∙ ap (λ (i : ℕ). broken_if (is_some state.given.source) Repeated (broken_if (is_given state.given.sink i) Ends (Ok (record state.given { source = Some i })))) is)
 
 sink_judged : (state : State Given) (line : Line) (v : Result ℤ Bad) → HasForm Sink line.fields → v ≡ node_of state line
     → step par state line ≡ state_of_ranged par state line.number (sink_form state.header_numbers) (joined v (Ok []))
 sink_judged state line v form e =
     step_sink state line (get_or line.fields 1 []) form
     ∙ ap (state_of_ranged par state line.number (sink_form state.header_numbers))
-        (sym (one_number (pos 1) (pos (node_count state.header_numbers)) (get_or line.fields 1 [])) ∙ ap (λ r. joined r (Ok [])) (sym e))
+    (sym (one_number (pos 1) (pos (node_count state.header_numbers)) (get_or line.fields 1 [])) ∙ ap (λ r. joined r (Ok [])) (sym e))
 
 pub sink_refused : (state : State Given) (line : Line) (n : ℕ) (bad : Bad) → HasForm Sink line.fields → n ≡ line.number → Err bad ≡ node_of state line
     → step par state line ≡ Err (number_refusal n bad)
@@ -114,9 +114,9 @@ pub sink_given : (state : State Given) (line : Line) (n : ℕ) (v : ℤ) (index 
 sink_given state line n v index answer form same e is rules =
     sink_judged state line (Ok v) form e
     ∙ by_rules n line.number (sink_rules (v ∷ []) state.given) (record state.given { sink = Some index })
-        (λ given. record { header_numbers = state.header_numbers; counted_lines = state.counted_lines; given = given }) answer same
-        (rules (Ok (record state.given { sink = Some index }))
-        ∙ ap (λ (i : ℕ). broken_if (is_some state.given.sink) Repeated (broken_if (is_given state.given.source i) Ends (Ok (record state.given { sink = Some i })))) is)
+    (λ given. record { header_numbers = state.header_numbers; counted_lines = state.counted_lines; given = given }) answer same
+    (rules (Ok (record state.given { sink = Some index }))
+    ∙ ap (λ (i : ℕ). broken_if (is_some state.given.sink) Repeated (broken_if (is_given state.given.source i) Ends (Ok (record state.given { sink = Some i })))) is)
 
 -- ---- an arc
 
@@ -164,8 +164,8 @@ arc_ruled state n m u v a b arc answer same room count is rules =
     let more : state.counted_lines + 1 ≡ length (state.given.arcs ++ arc ∷ []) = omega (arith, count, length-append state.given.arcs (arc ∷ [])) in
     rw (not_equal state.counted_lines (arc_count state.header_numbers) room)
     (by_rules n m (arc_rules (u ∷ v ∷ a ∷ b ∷ []) state.given) (record state.given { arcs = state.given.arcs ++ arc ∷ [] })
-        (λ given. record { header_numbers = state.header_numbers; counted_lines = state.counted_lines + 1; given = given }) answer same
-        (rules ∙ ap (λ (x : AffineArc). arc_rules_by state.given.interval state.given.source state.given.sink x state.given) is)
+    (λ given. record { header_numbers = state.header_numbers; counted_lines = state.counted_lines + 1; given = given }) answer same
+    (rules ∙ ap (λ (x : AffineArc). arc_rules_by state.given.interval state.given.source state.given.sink x state.given) is)
     ∙ ap (λ (k : ℕ). ruled n (record { header_numbers = state.header_numbers; counted_lines = k; given = record state.given { arcs = state.given.arcs ++ arc ∷ [] } }) answer) more)
 
 pub arc_given : (state : State Given) (line : Line) (n : ℕ) (u v a b : ℤ) (arc : AffineArc) (answer : Option RuleKind) → HasForm Arc line.fields → n ≡ line.number
