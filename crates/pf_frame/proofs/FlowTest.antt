@@ -1,6 +1,6 @@
 -- Numbers within their capacities whose sums are balanced are a flow, and a flow is such numbers.
-use Rattle.std.proofs.Common.{◌≡◌, ◌≢◌, ℕ, ◌<◌, List, length, arith}
-use Rattle.std.specs.Prelude.{ℤ, ◌-ℤ◌, pos}
+use Rattle.std.proofs.Common.{◌≡◌, ℕ, ◌<◌, List, length, arith}
+use Rattle.std.specs.Prelude.{ℤ}
 use Rattle.std.proofs.lemmas.Int.{ints}
 use Rattle.pf_model.specs.Cut.{at_arc}
 use Rattle.pf_model.specs.Flow.{IsFlow, IsWithin, flow_value}
@@ -29,4 +29,16 @@ pub within_of_flow : (g : Graph) (caps flow : List ℤ) (s t : ℕ) → IsBounde
 within_of_flow g caps flow s t b f = record {
   low = λ i low. f.within.low i (omega (arith, b.full));
   high = λ i low. f.within.high i (omega (arith, b.full));
+}
+
+-- what lies within the capacities does so whichever nodes are source and sink
+pub within_any_sink : (g : Graph) (caps flow : List ℤ) (s t s' t' : ℕ) → IsWithin (network_of g caps s t) flow → IsWithin (network_of g caps s' t') flow
+within_any_sink g caps flow s t s' t' w = record { full = w.full; low = w.low; high = w.high }
+
+-- a flow within bounded capacities is bounded
+pub bounded_of_flow : (g : Graph) (caps flow : List ℤ) (s t : ℕ) → IsBounded g caps → IsWithin (network_of g caps s t) flow → IsBounded g flow
+bounded_of_flow g caps flow s t b w = record {
+  full = w.full;
+  low = w.low;
+  high = λ i low. let most = w.high i low in let limit = b.high i low in omega (arith, ints, most, limit);
 }

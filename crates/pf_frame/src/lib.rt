@@ -1,10 +1,11 @@
-// The arcs of a network, and which of them leave and enter each node.
+// The arcs of a network and which of them leave and enter each node; lists and tables of numbers; the test of a flow, its value, and what its
+// residual graph reaches. Each answer is exact, and only `build`, `make` and `push` take memory.
 #![tactic(auto)]
 
-ghost use Rattle.std.specs.Prelude.{◌≡◌, ◌≢◌, ℕ, ◌+◌, ◌<◌, ◌≤◌, length, get_or, IfOk};
-ghost use Rattle.pf_model.specs.Graph.{Graph, IsGraph, arcs_out, arcs_in, numbers_from};
-ghost use Rattle.pf_frame.specs.Frame.{IsTable, is_at};
+ghost use Rattle.std.specs.Prelude.{◌≡◌, ◌≢◌, ℕ, ◌+◌, ◌<◌, ◌≤◌, length, slice_index_or, IfOk};
+ghost use Rattle.pf_model.specs.Graph.{Graph, IsGraph, arcs_out, arcs_in};
 
+use crate::group::group;
 use std::alloc::{AllocError, AllocFailed, Global};
 use std::marker::Model;
 use thiserror::Error;
@@ -26,13 +27,15 @@ impl<T: Drop> From<AllocFailed<T>> for NoMemory {
     }
 }
 
-/// A graph whose arcs are numbered from 0. Contracts see its number of nodes and its list of arcs.
+/// A directed graph. Nodes and arcs are numbered from 0; parallel arcs and loops are allowed. Contracts see its number of nodes and its list of arcs.
 #[derive(Drop)]
 pub struct Frame {
     node_count: u32,
     arcs: Vec<(u32, u32)>,
-    out_lists: Vec<Vec<u32>>,
-    in_lists: Vec<Vec<u32>>,
+    out_starts: Vec<u32>,
+    out_order: Vec<u32>,
+    in_starts: Vec<u32>,
+    in_order: Vec<u32>,
 }
 
 impl Model for Frame {
@@ -43,32 +46,11 @@ impl Model for Frame {
 
     ghost view = { λ f. record { nodes = f.node_count; ends = f.arcs.items } };
 
-    ghost invariant = { λ f. IsFrame (record { nodes = f.node_count; ends = f.arcs.items }) f.out_lists.items f.in_lists.items };
-}
-
-// The lists of the arcs that have each node as their tail, or as their head.
-fn group(
-    alloc: Global,
-    n: u32,
-    arcs: &[(u32, u32)],
-    by_head: bool,
-) -> Result<Vec<Vec<u32>>, NoMemory>
-    requires few { length arcs.now ≤ 32768 }
-    requires graph { IsGraph (record { nodes = n; ends = arcs.now }) }
-    ensures { IfOk result (λ lists. IsTable n lists.items (λ v. numbers_from (is_at by_head v) 0 arcs.now)) }
-{
-    let mut lists: Vec<Vec<u32>> = Vec::new(alloc);
-    'nodes: for _v in 0..n {
-        lists.push(Vec::new(alloc))?;
-    }
-    'arcs: for i in 0..arcs.len() {
-        let v = if by_head { arcs[i].1 } else { arcs[i].0 };
-        lists[v as usize].push(i as u32)?;
-    }
-    Ok(lists)
+    ghost invariant = { λ f. IsFrame (record { nodes = f.node_count; ends = f.arcs.items }) f.out_starts.items f.out_order.items f.in_starts.items f.in_order.items };
 }
 
 impl Frame {
+    /// The graph with the nodes below `n` and these arcs, each a tail and a head. Takes memory and time in proportion to nodes and arcs.
     pub fn build(alloc: Global, n: u32, ends: &[(u32, u32)]) -> Result<Frame, NoMemory>
         requires few_nodes { n ≤ 8192 }
         requires few_arcs { length ends.now ≤ 32768 }
@@ -76,16 +58,19 @@ impl Frame {
         ensures { IfOk result (λ f. f ≡ record { nodes = n; ends = ends.now }) }
     {
         let arcs = Vec::from_slice(alloc, ends)?;
-        let out_lists = group(alloc, n, ends, false)?;
-        let in_lists = group(alloc, n, ends, true)?;
+        let (out_starts, out_order) = group(alloc, n, ends, false)?;
+        let (in_starts, in_order) = group(alloc, n, ends, true)?;
         Ok(Frame {
             node_count: n,
             arcs,
-            out_lists,
-            in_lists,
+            out_starts,
+            out_order,
+            in_starts,
+            in_order,
         })
     }
 
+    /// The number of nodes.
     pub fn nodes(&self) -> u32
         ensures value { result ≡ self.now.nodes }
         ensures few { result ≤ 8192 }
@@ -94,6 +79,7 @@ impl Frame {
         self.node_count
     }
 
+    /// The number of arcs.
     pub fn arcs(&self) -> u32
         ensures value { result ≡ length self.now.ends }
         ensures few { result ≤ 32768 }
@@ -101,17 +87,19 @@ impl Frame {
         self.arcs.len() as u32
     }
 
+    /// The node that arc `i` leaves.
     pub fn tail(&self, i: u32) -> u32
         requires { i < length self.now.ends }
-        ensures value { result ≡ (get_or self.now.ends i (0, 0)).0 }
+        ensures value { result ≡ (slice_index_or self.now.ends i (0, 0)).0 }
         ensures node { result < self.now.nodes }
     {
         self.arcs[i as usize].0
     }
 
+    /// The node that arc `i` enters.
     pub fn head(&self, i: u32) -> u32
         requires { i < length self.now.ends }
-        ensures value { result ≡ (get_or self.now.ends i (0, 0)).1 }
+        ensures value { result ≡ (slice_index_or self.now.ends i (0, 0)).1 }
         ensures node { result < self.now.nodes }
     {
         self.arcs[i as usize].1
@@ -122,7 +110,9 @@ impl Frame {
         requires { v < self.now.nodes }
         ensures { result.now ≡ arcs_out self.now v }
     {
-        self.out_lists[v as usize].as_slice()
+        let start = self.out_starts[v as usize];
+        let end = self.out_starts[v as usize + 1];
+        &self.out_order[start as usize..end as usize]
     }
 
     /// The numbers of the arcs that enter `v`, rising.
@@ -130,11 +120,14 @@ impl Frame {
         requires { v < self.now.nodes }
         ensures { result.now ≡ arcs_in self.now v }
     {
-        self.in_lists[v as usize].as_slice()
+        let start = self.in_starts[v as usize];
+        let end = self.in_starts[v as usize + 1];
+        &self.in_order[start as usize..end as usize]
     }
 }
 
 mod flow;
+mod group;
 mod lists;
 mod scratch;
 mod table;
@@ -143,3 +136,52 @@ pub use flow::{is_flow, reach, value};
 pub use lists::{Numbers, Side};
 pub use scratch::Scratch;
 pub use table::FlowTable;
+
+#[cfg(test)]
+mod tests {
+    use super::*;
+    use std::test::Fail;
+
+    // Two paths of two arcs from 0 to 3, an arc between them, and a loop.
+    const ENDS: [(u32, u32); 6] = [(0, 1), (0, 2), (1, 3), (2, 3), (1, 2), (1, 1)];
+
+    const CAPS: [i128; 6] = [4, 2, 3, 5, 1, 9];
+
+    const FLOW: [i128; 6] = [4, 2, 3, 3, 1, 7];
+
+    #[test]
+    fn arcs_stand_at_their_nodes(rt: HostRuntime) -> Result<(), Fail> {
+        let frame = Frame::build(rt.alloc(), 4, &ENDS)?;
+        assert_eq!(rt; frame.nodes(), 4);
+        assert_eq!(rt; frame.arcs(), 6);
+        assert_eq!(rt; frame.tail(4), 1);
+        assert_eq!(rt; frame.head(4), 2);
+        assert_eq!(rt; frame.outs(1), [2, 4, 5].as_slice());
+        assert_eq!(rt; frame.ins(3), [2, 3].as_slice());
+        assert_eq!(rt; frame.outs(3), [].as_slice());
+        Ok(())
+    }
+
+    #[test]
+    fn a_greatest_flow_is_tested(rt: HostRuntime) -> Result<(), Fail> {
+        let frame = Frame::build(rt.alloc(), 4, &ENDS)?;
+        let mut scratch = Scratch::make(rt.alloc(), 4, 6)?;
+        let mut side = [true; 4];
+        assert!(rt; is_flow(&frame, &CAPS, 0, 3, &FLOW, &mut scratch));
+        assert!(rt; !is_flow(&frame, &CAPS, 0, 3, &[4, 2, 3, 2, 1, 7], &mut scratch));
+        assert!(rt;
+            !is_flow(
+                &frame,
+                &CAPS,
+                0,
+                3,
+                &[i128::MAX, 2, 3, 3, 1, i128::MIN],
+                &mut scratch
+            )
+        );
+        assert_eq!(rt; value(&frame, 0, &FLOW), 6);
+        reach(&frame, &CAPS, &FLOW, 0, &mut scratch, &mut side);
+        assert_eq!(rt; side, [true, false, false, false]);
+        Ok(())
+    }
+}

@@ -44,15 +44,16 @@ impl Side {
         items
     }
 
-    /// Adds the item at the end. `NoMemory` leaves the list as it was, and drops the item.
-    pub fn push(&mut self, item: bool) -> Result<(), NoMemory>
-        ensures added { IfOk result (λ _. self.new ≡ self.old ++ item ∷ []) }
+    /// Adds the value at the end. `NoMemory` leaves the list as it was, and drops the value.
+    pub fn push(&mut self, value: bool) -> Result<(), NoMemory>
+        ensures added { IfOk result (λ _. self.new ≡ self.old ++ value ∷ []) }
         ensures unchanged { OnErr result (self.new ≡ self.old) }
     {
-        self.items.push(item)?;
+        self.items.push(value)?;
         Ok(())
     }
 
+    /// The items, in the order in which they were added.
     pub fn get(&self) -> &[bool]
         ensures { result.now ≡ self.now }
     {
@@ -99,15 +100,16 @@ impl Numbers {
         items
     }
 
-    /// Adds the item at the end. `NoMemory` leaves the list as it was, and drops the item.
-    pub fn push(&mut self, item: i128) -> Result<(), NoMemory>
-        ensures added { IfOk result (λ _. self.new ≡ self.old ++ item ∷ []) }
+    /// Adds the number at the end. `NoMemory` leaves the list as it was, and drops the number.
+    pub fn push(&mut self, number: i128) -> Result<(), NoMemory>
+        ensures added { IfOk result (λ _. self.new ≡ self.old ++ number ∷ []) }
         ensures unchanged { OnErr result (self.new ≡ self.old) }
     {
-        self.items.push(item)?;
+        self.items.push(number)?;
         Ok(())
     }
 
+    /// The items, in the order in which they were added.
     pub fn get(&self) -> &[i128]
         ensures { result.now ≡ self.now }
     {

@@ -1,5 +1,5 @@
 -- Calls one after another, and their counts of faults.
-use Rattle.std.proofs.Common.{◌≡◌, ℕ, ◌<◌, ◌≤◌, ◌⊎◌, inl, inr, arith}
+use Rattle.std.proofs.Common.{ℕ, ◌≤◌, inl, inr, arith}
 use Rattle.pf_io.specs.Faults.{Rose}
 
 -- a count that rose later rose

@@ -1,4 +1,6 @@
 // Why readers refuse.
+ghost use Rattle.std.specs.Prelude.{◌≡◌};
+
 use pf_text::TextBad;
 use std::alloc::{AllocError, AllocFailed};
 use thiserror::Error;
@@ -15,12 +17,20 @@ pub enum ReadBad {
 }
 
 impl From<AllocError> for ReadBad {
+    ghost use Rattle.pf_lines.specs.declared.errors.ReadBad.TheVariants.{NoMemory};
+
+    ghost from_gives = { λ _ bad. bad ≡ NoMemory };
+
     fn from(_error: AllocError) -> ReadBad {
         ReadBad::NoMemory
     }
 }
 
 impl<T: Drop> From<AllocFailed<T>> for ReadBad {
+    ghost use Rattle.pf_lines.specs.declared.errors.ReadBad.TheVariants.{NoMemory};
+
+    ghost from_gives = { λ _ bad. bad ≡ NoMemory };
+
     fn from(_error: AllocFailed<T>) -> ReadBad {
         ReadBad::NoMemory
     }
@@ -38,12 +48,20 @@ pub enum AnswerBad {
 }
 
 impl From<AllocError> for AnswerBad {
+    ghost use Rattle.pf_lines.specs.declared.errors.AnswerBad.TheVariants.{NoMemory};
+
+    ghost from_gives = { λ _ bad. bad ≡ NoMemory };
+
     fn from(_error: AllocError) -> AnswerBad {
         AnswerBad::NoMemory
     }
 }
 
 impl<T: Drop> From<AllocFailed<T>> for AnswerBad {
+    ghost use Rattle.pf_lines.specs.declared.errors.AnswerBad.TheVariants.{NoMemory};
+
+    ghost from_gives = { λ _ bad. bad ≡ NoMemory };
+
     fn from(_error: AllocFailed<T>) -> AnswerBad {
         AnswerBad::NoMemory
     }

@@ -8,7 +8,7 @@ use Rattle.std.proofs.lemmas.Nat.Gcd.{IsGcd-from_mod, IsGcd-from_zero, dvd_antis
 use Rattle.std.proofs.Math.Nat.{div-mul_cancel, one-dvd, mod-lt, dvd-mul_left, dvd-mul_right, mul-dvd-mul_right, dvd_of_mul-dvd-mul_right, div-le_self}
 use Rattle.std.proofs.Math.IntN.{negsuc-*ℤ-pos}
 use Rattle.pf_model.specs.Fraction.{Fraction, IsParameter, IsBelow, IsEqual, is_below, IsLowest, divisor_within, lowest}
-use Rattle.pf_model.proofs.Integers.{mul_comm, mul_assoc, mul_most, mul_most_inverse}
+use Rattle.pf_model.proofs.Integers.{mul_comm, mul_assoc, mul_most, mul_less, mul_most_inverse}
 use Prim.Native.Nat.{◌∣◌}
 
 less_test : (a b : ℤ) → Decides (int_lt a b) (a <ℤ b)
@@ -192,6 +192,47 @@ pub lowest_same : (x y : Fraction) → IsParameter x → IsParameter y → IsEqu
 lowest_same x y h k e =
     let l = lowest_is x h in
     lowest_only y (lowest x) k l.parameter (equal_both x (lowest x) y h l.equal (sym e)) l.lowest
+
+pub lowest_stays : (x : Fraction) → IsParameter x → IsLowest x → lowest x ≡ x
+lowest_stays x h alone = sym (lowest_only x x h h refl alone)
+
+pub lowest_from_stays : (x : Fraction) → IsParameter x → lowest x ≡ x → IsLowest x
+lowest_from_stays x h e = let P : Fraction → Type 0 = λ y. IsLowest y in subst P e (lowest_is x h).lowest
+
+-- the order is that of the lowest terms
+
+shuffle : (a b c : ℤ) → a *ℤ (b *ℤ c) ≡ b *ℤ (a *ℤ c)
+shuffle a b c = sym (mul_assoc a b c) ∙ ap (λ n. n *ℤ c) (mul_comm a b) ∙ mul_assoc b a c
+
+less_inverse : (k a b : ℤ) → pos 1 ≤ℤ k → (k *ℤ a) <ℤ (k *ℤ b) → a <ℤ b
+less_inverse k a b h l =
+    by_lt_z a b (λ less. less) (λ back. absurd (let e = mul_most k b a (omega (arith, ints, h)) back in omega (arith, ints, e, l)))
+
+pub below_equal : (x y z : Fraction) → IsParameter x → IsParameter y → IsParameter z → IsBelow x y → IsEqual y z → IsBelow x z
+below_equal x y z px py pz below e =
+    let more = mul_less z.q (x.p *ℤ y.q) (y.p *ℤ x.q) (omega (arith, ints, pz)) below in
+    let left = shuffle y.q x.p z.q ∙ ap (λ n. x.p *ℤ n) (mul_comm y.q z.q) ∙ shuffle x.p z.q y.q in
+    let right = shuffle y.q z.p x.q ∙ sym (mul_assoc z.p y.q x.q) ∙ ap (λ n. n *ℤ x.q) (sym e) ∙ mul_assoc y.p z.q x.q ∙ shuffle y.p z.q x.q in
+    less_inverse y.q (x.p *ℤ z.q) (z.p *ℤ x.q) py (omega (arith, ints, more, left, right))
+
+pub equal_below : (x y z : Fraction) → IsParameter x → IsParameter y → IsParameter z → IsEqual x y → IsBelow y z → IsBelow x z
+equal_below x y z px py pz e below =
+    let more = mul_less x.q (y.p *ℤ z.q) (z.p *ℤ y.q) (omega (arith, ints, px)) below in
+    let left = shuffle y.q x.p z.q ∙ sym (mul_assoc x.p y.q z.q) ∙ ap (λ n. n *ℤ z.q) e ∙ mul_assoc y.p x.q z.q ∙ shuffle y.p x.q z.q in
+    let right = shuffle y.q z.p x.q ∙ ap (λ n. z.p *ℤ n) (mul_comm y.q x.q) ∙ shuffle z.p x.q y.q in
+    less_inverse y.q (x.p *ℤ z.q) (z.p *ℤ x.q) py (omega (arith, ints, more, left, right))
+
+pub below_lowest : (x y : Fraction) → IsParameter x → IsParameter y → IsBelow x y → IsBelow (lowest x) (lowest y)
+below_lowest x y px py below =
+    let l = lowest_is x px in
+    let m = lowest_is y py in
+    equal_below (lowest x) x (lowest y) l.parameter px m.parameter l.equal (below_equal x y (lowest y) px py m.parameter below (sym m.equal))
+
+pub below_from_lowest : (x y : Fraction) → IsParameter x → IsParameter y → IsBelow (lowest x) (lowest y) → IsBelow x y
+below_from_lowest x y px py below =
+    let l = lowest_is x px in
+    let m = lowest_is y py in
+    equal_below x (lowest x) y px l.parameter py (sym l.equal) (below_equal (lowest x) (lowest y) y l.parameter m.parameter py below m.equal)
 
 -- worked by hand
 lowest_row : lowest (record { p = pos 8; q = pos 2 }) ≡ record { p = pos 4; q = pos 1 }

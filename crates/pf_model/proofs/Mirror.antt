@@ -11,7 +11,7 @@ use Rattle.pf_model.specs.Cut.{FlowNetwork, IsSmallestLeast, sum_where, leaves, 
 use Rattle.pf_model.specs.Flow.{IsFlow, value}
 use Rattle.pf_model.specs.Network.{Network, IsNetworkCut, IsMonotone, IsMonotoneArc, IsInInterval, keeps_slope, fits_source, fits_sink, network_at, capacity_at, ends_of, cut_a, cut_b}
 use Rattle.pf_model.specs.Curve.{IsPoint}
-use Rattle.pf_model.specs.Mirror.{negated, other_sense, mirror_arc, mirror}
+use Rattle.pf_model.specs.Mirror.{negative, other_sense, mirror_arc, mirror}
 use Rattle.pf_model.proofs.Integers.{add_mul, mul_comm}
 use Rattle.pf_model.proofs.Affine.{no_arc}
 
@@ -32,39 +32,39 @@ neg_both a b =
 pub neg_twice : (a : ℤ) → neg_ℤ (neg_ℤ a) ≡ a
 neg_twice a = omega (arith, ints)
 
-pub negated_twice : (x : Fraction) → negated (negated x) ≡ x
+pub negated_twice : (x : Fraction) → negative (negative x) ≡ x
 negated_twice x = let f : ℤ → Fraction = λ n. record { p = n; q = x.q } in ap f (neg_twice x.p)
 
 -- the order is turned round
-pub below_turned : (x y : Fraction) → IsBelow x y → IsBelow (negated y) (negated x)
+pub below_turned : (x y : Fraction) → IsBelow x y → IsBelow (negative y) (negative x)
 below_turned x y h = omega (arith, ints, h, neg_mul x.p y.q, neg_mul y.p x.q)
 
-pub at_most_turned : (x y : Fraction) → IsAtMost x y → IsAtMost (negated y) (negated x)
+pub at_most_turned : (x y : Fraction) → IsAtMost x y → IsAtMost (negative y) (negative x)
 at_most_turned x y h = omega (arith, ints, h, neg_mul x.p y.q, neg_mul y.p x.q)
 
-pub equal_turned : (x y : Fraction) → IsEqual x y → IsEqual (negated x) (negated y)
+pub equal_turned : (x y : Fraction) → IsEqual x y → IsEqual (negative x) (negative y)
 equal_turned x y h = neg_mul x.p y.q ∙ ap neg_ℤ h ∙ sym (neg_mul y.p x.q)
 
 -- an arc's capacity at the negated parameter
-pub capacity_turned : (x : Fraction) (arc : AffineArc) → capacity_at (negated x) (mirror_arc arc) ≡ capacity_at x arc
+pub capacity_turned : (x : Fraction) (arc : AffineArc) → capacity_at (negative x) (mirror_arc arc) ≡ capacity_at x arc
 capacity_turned x arc = ap (λ n. (arc.a *ℤ x.q) +ℤ n) (neg_both arc.b x.p)
 
 ends_turned : (arcs : List AffineArc) → map ends_of (map mirror_arc arcs) ≡ map ends_of arcs
 ends_turned [] = refl
 ends_turned (arc ∷ arcs) = ap (λ l. ends_of arc ∷ l) (ends_turned arcs)
 
-capacities_turned : (x : Fraction) (arcs : List AffineArc) → map (capacity_at (negated x)) (map mirror_arc arcs) ≡ map (capacity_at x) arcs
+capacities_turned : (x : Fraction) (arcs : List AffineArc) → map (capacity_at (negative x)) (map mirror_arc arcs) ≡ map (capacity_at x) arcs
 capacities_turned x [] = refl
 capacities_turned x (arc ∷ arcs) = rw (capacity_turned x arc, capacities_turned x arcs) refl
 
-pub network_turned : (net : Network) (x : Fraction) → network_at (mirror net) (negated x) ≡ network_at net x
+pub network_turned : (net : Network) (x : Fraction) → network_at (mirror net) (negative x) ≡ network_at net x
 network_turned net x =
     let f : List (ℕ × ℕ) → FlowNetwork = λ ends. record {
       nodes = net.nodes;
       source = net.source;
       sink = net.sink;
       ends = ends;
-      capacities = map (capacity_at (negated x)) (map mirror_arc net.arcs);
+      capacities = map (capacity_at (negative x)) (map mirror_arc net.arcs);
     } in
     let h : List ℤ → FlowNetwork = λ capacities. record {
       nodes = net.nodes;
@@ -76,7 +76,7 @@ network_turned net x =
     ap f (ends_turned net.arcs) ∙ ap h (capacities_turned x net.arcs)
 
 -- what holds of the network at x holds of its mirror at minus x
-pub at_mirror : (P : FlowNetwork → Type 0) (net : Network) (x y : Fraction) → y ≡ negated x → P (network_at net x) → P (network_at (mirror net) y)
+pub at_mirror : (P : FlowNetwork → Type 0) (net : Network) (x y : Fraction) → y ≡ negative x → P (network_at net x) → P (network_at (mirror net) y)
 at_mirror P net x y e h =
     subst P (sym (network_turned net x) ∙ ap (λ z. network_at (mirror net) z) (sym e)) h
 
@@ -160,7 +160,7 @@ monotone_turned net m = record {
       subst (IsMonotoneArc (mirror net)) (sym e) (arc_turned net (get_or net.arcs i no_arc) (m.each i no_arc here));
 }
 
-pub interval_turned : (net : Network) (x : Fraction) → IsInInterval net x → IsInInterval (mirror net) (negated x)
+pub interval_turned : (net : Network) (x : Fraction) → IsInInterval net x → IsInInterval (mirror net) (negative x)
 interval_turned net x h = record {
   parameter = h.parameter;
   low = at_most_turned x net.high h.high;
@@ -201,10 +201,10 @@ mirror_twice net =
     ∙ ap (λ high. build net.sense net.low high twice.arcs) (negated_twice net.high)
     ∙ ap (λ arcs. build net.sense net.low net.high arcs) (arcs_twice net.arcs)
 
-pub point_turned : (net : Network) (x : Fraction) (side : List Bool) (flow : List ℤ) → IsPoint net x side flow → IsPoint (mirror net) (negated x) side flow
+pub point_turned : (net : Network) (x : Fraction) (side : List Bool) (flow : List ℤ) → IsPoint net x side flow → IsPoint (mirror net) (negative x) side flow
 point_turned net x side flow p = record {
   parameter = p.parameter;
-  smallest = at_mirror (λ g. IsSmallestLeast g side) net x (negated x) refl p.smallest;
-  flow_is = at_mirror (λ g. IsFlow g flow) net x (negated x) refl p.flow_is;
-  value_is = at_mirror (λ g. value g flow ≡ capacity g side) net x (negated x) refl p.value_is;
+  smallest = at_mirror (λ g. IsSmallestLeast g side) net x (negative x) refl p.smallest;
+  flow_is = at_mirror (λ g. IsFlow g flow) net x (negative x) refl p.flow_is;
+  value_is = at_mirror (λ g. value g flow ≡ capacity g side) net x (negative x) refl p.value_is;
 }

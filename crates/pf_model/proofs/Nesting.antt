@@ -7,7 +7,7 @@ use Rattle.pf_model.specs.declared.Sense.TheVariants.{Rising, Falling}
 use Rattle.pf_model.specs.Fraction.{Fraction, IsAtMost}
 use Rattle.pf_model.specs.Cut.{IsLeast, IsSmallestLeast, IsContained, sum_where, has, leaves}
 use Rattle.pf_model.specs.Network.{Network, IsNetworkCut, IsMonotone, IsInInterval, network_at, ends_of, cut_b}
-use Rattle.pf_model.specs.Mirror.{negated, other_sense, mirror}
+use Rattle.pf_model.specs.Mirror.{negative, other_sense, mirror}
 use Rattle.pf_model.proofs.Affine.{no_arc, arc_at, Rises, rises, nested}
 use Rattle.pf_model.proofs.Mirror.{at_mirror, at_most_turned, monotone_turned, interval_turned, cut_turned, slope_turned}
 
@@ -48,12 +48,12 @@ rising_slopes net first second m rising a b h =
 pub falling_slopes : (net : Network) (first second : List Bool) → IsMonotone net → net.sense ≡ Falling → IsNetworkCut net first → IsNetworkCut net second →
     IsContained first second → cut_b net first ≤ℤ cut_b net second
 falling_slopes net first second m falling a b h =
-    let turned = rising_slopes (mirror net) first second (monotone_turned net m) (ap other_sense falling) (cut_turned net first a) (cut_turned net second b) h in
-    omega (arith, ints, turned, slope_turned net first, slope_turned net second)
+    let other = rising_slopes (mirror net) first second (monotone_turned net m) (ap other_sense falling) (cut_turned net first a) (cut_turned net second b) h in
+    omega (arith, ints, other, slope_turned net first, slope_turned net second)
 
 pub nested_falling : (net : Network) (x y : Fraction) (first second : List Bool) → IsMonotone net → net.sense ≡ Falling → IsInInterval net x → IsInInterval net y →
     IsAtMost x y → IsLeast (network_at net x) first → IsSmallestLeast (network_at net y) second → IsContained second first
 nested_falling net x y first second m falling inside within order a b =
-    nested (mirror net) (negated y) (negated x) second first (monotone_turned net m) (ap other_sense falling)
+    nested (mirror net) (negative y) (negative x) second first (monotone_turned net m) (ap other_sense falling)
     (interval_turned net y within) (interval_turned net x inside) (at_most_turned x y order)
-    (at_mirror (λ g. IsSmallestLeast g second) net y (negated y) refl b) (at_mirror (λ g. IsLeast g first) net x (negated x) refl a)
+    (at_mirror (λ g. IsSmallestLeast g second) net y (negative y) refl b) (at_mirror (λ g. IsLeast g first) net x (negative x) refl a)

@@ -11,7 +11,7 @@ use Rattle.pf_model.specs.Flow.{IsFlow, value}
 use Rattle.pf_model.specs.Residual.{IsReach}
 use Rattle.pf_model.specs.Network.{Network, IsNetworkCut, network_at, cut_b}
 use Rattle.pf_model.specs.Curve.{IsDivision, IsCurve, CertifiesCurve, SlopesFall, Nests, own_point, IsPoint, point_at, cut_at, flow_at}
-use Rattle.pf_model.specs.Mirror.{negated, other_sense, mirror, turned}
+use Rattle.pf_model.specs.Mirror.{negative, other_sense, mirror, turned_points}
 use Rattle.pf_model.proofs.Mirror.{negated_twice, below_turned, at_most_turned, equal_turned, at_mirror, slope_turned, cut_turned, point_turned, mirror_twice}
 
 -- places in a list that was turned round
@@ -20,31 +20,31 @@ place_turned xs d i j e =
     get_or-reverse xs i d (omega (arith, e)) ∙ ap (λ k. get_or xs k d) (let f : length xs - 1 - i ≡ j = omega (arith, e) in f)
 
 place_of_point : (net : Network) (points : List Fraction) (i j : ℕ) → i + j + 1 ≡ length points →
-    point_at (mirror net) (turned points) i ≡ negated (point_at net points j)
+    point_at (mirror net) (turned_points points) i ≡ negative (point_at net points j)
 place_of_point net points i j e =
-    place_turned (map negated points) (negated net.high) i j (omega (arith, e, length-map points negated))
-    ∙ get_or-map negated points j net.low (negated net.high) (omega (arith, e))
+    place_turned (map negative points) (negative net.high) i j (omega (arith, e, length-map points negative))
+    ∙ get_or-map negative points j net.low (negative net.high) (omega (arith, e))
 
 -- the order of points
-below_by : (x y x' y' : Fraction) → x' ≡ negated y → y' ≡ negated x → IsBelow x y → IsBelow x' y'
+below_by : (x y x' y' : Fraction) → x' ≡ negative y → y' ≡ negative x → IsBelow x y → IsBelow x' y'
 below_by x y x' y' e f h =
-    subst (λ z. IsBelow z y') (sym e) (subst (λ z. IsBelow (negated y) z) (sym f) (below_turned x y h))
+    subst (λ z. IsBelow z y') (sym e) (subst (λ z. IsBelow (negative y) z) (sym f) (below_turned x y h))
 
-after_turned : (x y y' : Fraction) → y' ≡ negated y → IsAtMost x y' → IsAtMost y (negated x)
+after_turned : (x y y' : Fraction) → y' ≡ negative y → IsAtMost x y' → IsAtMost y (negative x)
 after_turned x y y' e h =
-    subst (λ z. IsAtMost z (negated x)) (negated_twice y) (at_most_turned x (negated y) (subst (λ z. IsAtMost x z) e h))
+    subst (λ z. IsAtMost z (negative x)) (negated_twice y) (at_most_turned x (negative y) (subst (λ z. IsAtMost x z) e h))
 
-before_turned : (x y y' : Fraction) → y' ≡ negated y → IsAtMost y' x → IsAtMost (negated x) y
+before_turned : (x y y' : Fraction) → y' ≡ negative y → IsAtMost y' x → IsAtMost (negative x) y
 before_turned x y y' e h =
-    subst (λ z. IsAtMost (negated x) z) (negated_twice y) (at_most_turned (negated y) x (subst (λ z. IsAtMost z x) e h))
+    subst (λ z. IsAtMost (negative x) z) (negated_twice y) (at_most_turned (negative y) x (subst (λ z. IsAtMost z x) e h))
 
 division_turned : (net : Network) (points : List Fraction) (cuts : List (List Bool)) → IsDivision net points cuts →
-    IsDivision (mirror net) (turned points) (reverse cuts)
+    IsDivision (mirror net) (turned_points points) (reverse cuts)
 division_turned net points cuts d =
     let k = length cuts in
     let count = d.count in
     let long = length-reverse cuts in
-    let wide : length (turned points) ≡ length points = length-reverse (map negated points) ∙ length-map points negated in
+    let wide : length (turned_points points) ≡ length points = length-reverse (map negative points) ∙ length-map points negative in
     record {
       some = let h = d.some in omega (arith, h, long);
       count = omega (arith, wide, count, long);
@@ -53,10 +53,10 @@ division_turned net points cuts d =
           subst IsParameter (sym e) (d.parameters (k - i) (omega (arith, count)));
       low =
           let e = place_of_point net points 0 k (omega (arith, count)) in
-          subst (λ z. IsEqual z (negated net.high)) (sym e) (equal_turned (point_at net points k) net.high d.high);
+          subst (λ z. IsEqual z (negative net.high)) (sym e) (equal_turned (point_at net points k) net.high d.high);
       high =
           let e = place_of_point net points (length (reverse cuts)) 0 (omega (arith, count, long)) in
-          subst (λ z. IsEqual z (negated net.low)) (sym e) (equal_turned (point_at net points 0) net.low d.low);
+          subst (λ z. IsEqual z (negative net.low)) (sym e) (equal_turned (point_at net points 0) net.low d.low);
       rise = λ i low.
           let j = k - (i + 1) in
           let e = place_of_point net points i (j + 1) (omega (arith, low, count, long)) in
@@ -66,7 +66,7 @@ division_turned net points cuts d =
 
 -- cut i of the one is cut j of the other, and so are their own points
 own_place : (sense : Sense) (net : Network) (points : List Fraction) (i j : ℕ) → i + j + 2 ≡ length points →
-    point_at (mirror net) (turned points) (own_point (other_sense sense) i) ≡ negated (point_at net points (own_point sense j))
+    point_at (mirror net) (turned_points points) (own_point (other_sense sense) i) ≡ negative (point_at net points (own_point sense j))
 own_place Rising net points i j e = place_of_point net points i (j + 1) (omega (arith, e))
 own_place Falling net points i j e = place_of_point net points (i + 1) j (omega (arith, e))
 
@@ -89,7 +89,7 @@ nests_turned Rising a b a' b' e f h = λ v held. rw e (h v (rw f at held))
 nests_turned Falling a b a' b' e f h = λ v held. rw f (h v (rw e at held))
 
 pub curve_turned : (net : Network) (points : List Fraction) (cuts : List (List Bool)) → IsCurve net points cuts →
-    IsCurve (mirror net) (turned points) (reverse cuts)
+    IsCurve (mirror net) (turned_points points) (reverse cuts)
 curve_turned net points cuts c =
     let k = length cuts in
     let count = c.division.count in
@@ -102,16 +102,16 @@ curve_turned net points cuts c =
           let s = place_turned cuts [] i j (omega (arith, low, long)) in
           let e = place_of_point net points i (j + 1) (omega (arith, low, count, long)) in
           let f = place_of_point net points (i + 1) j (omega (arith, low, count, long)) in
-          let here = c.least j (omega (arith, low, long)) (negated x) px
+          let here = c.least j (omega (arith, low, long)) (negative x) px
           (after_turned x (point_at net points j) _ f after) (before_turned x (point_at net points (j + 1)) _ e h) in
           subst (λ z. IsLeast (network_at (mirror net) x) z) (sym s)
-          (at_mirror (λ g. IsLeast g side) net (negated x) x (sym (negated_twice x)) here);
+          (at_mirror (λ g. IsLeast g side) net (negative x) x (sym (negated_twice x)) here);
       smallest = λ i low.
           let j = k - (i + 1) in
           let side = cut_at cuts j in
           let s = place_turned cuts [] i j (omega (arith, low, long)) in
           let e = own_place net.sense net points i j (omega (arith, low, count, long)) in
-          subst (λ z. IsSmallestLeast (network_at (mirror net) (point_at (mirror net) (turned points) (own_point (other_sense net.sense) i))) z) (sym s)
+          subst (λ z. IsSmallestLeast (network_at (mirror net) (point_at (mirror net) (turned_points points) (own_point (other_sense net.sense) i))) z) (sym s)
           (at_mirror (λ g. IsSmallestLeast g side) net (point_at net points (own_point net.sense j)) _ e (c.smallest j (omega (arith, low, long))));
       slopes = slopes_turned net cuts c.slopes;
       nested = λ i low.
@@ -126,7 +126,7 @@ curve_turned net points cuts c =
           c.different j (omega (arith, low, long)) (sym f ∙ sym same ∙ e);
     }
 
-meets_turned : (net : Network) (x x' : Fraction) (flow flow' : List ℤ) (side side' : List Bool) → x' ≡ negated x → flow' ≡ flow → side' ≡ side →
+meets_turned : (net : Network) (x x' : Fraction) (flow flow' : List ℤ) (side side' : List Bool) → x' ≡ negative x → flow' ≡ flow → side' ≡ side →
     value (network_at net x) flow ≡ capacity (network_at net x) side →
     value (network_at (mirror net) x') flow' ≡ capacity (network_at (mirror net) x') side'
 meets_turned net x x' flow flow' side side' e f s h =
@@ -135,13 +135,13 @@ meets_turned net x x' flow flow' side side' e f s h =
     ∙ ap (capacity (network_at (mirror net) x')) (sym s)
 
 pub certificate_turned : (net : Network) (points : List Fraction) (cuts : List (List Bool)) (flows : List (List ℤ)) →
-    CertifiesCurve net points cuts flows → CertifiesCurve (mirror net) (turned points) (reverse cuts) (reverse flows)
+    CertifiesCurve net points cuts flows → CertifiesCurve (mirror net) (turned_points points) (reverse cuts) (reverse flows)
 certificate_turned net points cuts flows c =
     let k = length cuts in
     let count = c.division.count in
     let many = c.count in
     let long = length-reverse cuts in
-    let wide : length (turned points) ≡ length points = length-reverse (map negated points) ∙ length-map points negated in
+    let wide : length (turned_points points) ≡ length points = length-reverse (map negative points) ∙ length-map points negative in
     record {
       division = division_turned net points cuts c.division;
       count = omega (arith, many, wide, length-reverse flows);
@@ -149,7 +149,7 @@ certificate_turned net points cuts flows c =
           let j = k - i in
           let e = place_of_point net points i j (omega (arith, low, wide, count)) in
           let f = place_turned flows [] i j (omega (arith, low, wide, count, many)) in
-          subst (λ z. IsFlow (network_at (mirror net) (point_at (mirror net) (turned points) i)) z) (sym f)
+          subst (λ z. IsFlow (network_at (mirror net) (point_at (mirror net) (turned_points points) i)) z) (sym f)
           (at_mirror (λ g. IsFlow g (flow_at flows j)) net (point_at net points j) _ e (c.flow_is j (omega (arith, count))));
       left = λ i low.
           let j = k - (i + 1) in
@@ -168,7 +168,7 @@ certificate_turned net points cuts flows c =
           let e = own_place net.sense net points i j (omega (arith, low, count, long)) in
           let f = own_flow net.sense flows i j (omega (arith, low, count, long, many)) in
           let s = place_turned cuts [] i j (omega (arith, low, long)) in
-          let g : FlowNetwork = network_at (mirror net) (point_at (mirror net) (turned points) (own_point (other_sense net.sense) i)) in
+          let g : FlowNetwork = network_at (mirror net) (point_at (mirror net) (turned_points points) (own_point (other_sense net.sense) i)) in
           subst (λ z. IsReach g z (cut_at (reverse cuts) i)) (sym f)
           (subst (λ z. IsReach g flow z) (sym s)
           (at_mirror (λ g. IsReach g flow side) net (point_at net points (own_point net.sense j)) _ e (c.reach j (omega (arith, low, long)))));
@@ -181,15 +181,15 @@ certificate_turned net points cuts flows c =
 
 -- from the mirror back to the network
 pub point_back : (net : Network) (x : Fraction) (side : List Bool) (flow : List ℤ) → IsPoint (mirror net) x side flow →
-    IsPoint net (negated x) side flow
-point_back net x side flow p = subst (λ n. IsPoint n (negated x) side flow) (mirror_twice net) (point_turned (mirror net) x side flow p)
+    IsPoint net (negative x) side flow
+point_back net x side flow p = subst (λ n. IsPoint n (negative x) side flow) (mirror_twice net) (point_turned (mirror net) x side flow p)
 
 pub curve_back : (net : Network) (points : List Fraction) (cuts : List (List Bool)) → IsCurve (mirror net) points cuts →
-    IsCurve net (turned points) (reverse cuts)
+    IsCurve net (turned_points points) (reverse cuts)
 curve_back net points cuts c =
-    subst (λ n. IsCurve n (turned points) (reverse cuts)) (mirror_twice net) (curve_turned (mirror net) points cuts c)
+    subst (λ n. IsCurve n (turned_points points) (reverse cuts)) (mirror_twice net) (curve_turned (mirror net) points cuts c)
 
 pub certificate_back : (net : Network) (points : List Fraction) (cuts : List (List Bool)) (flows : List (List ℤ)) →
-    CertifiesCurve (mirror net) points cuts flows → CertifiesCurve net (turned points) (reverse cuts) (reverse flows)
+    CertifiesCurve (mirror net) points cuts flows → CertifiesCurve net (turned_points points) (reverse cuts) (reverse flows)
 certificate_back net points cuts flows c =
-    subst (λ n. CertifiesCurve n (turned points) (reverse cuts) (reverse flows)) (mirror_twice net) (certificate_turned (mirror net) points cuts flows c)
+    subst (λ n. CertifiesCurve n (turned_points points) (reverse cuts) (reverse flows)) (mirror_twice net) (certificate_turned (mirror net) points cuts flows c)

@@ -10,7 +10,7 @@ use Rattle.pf_model.specs.Cut.{IsContained, has, size}
 use Rattle.pf_model.specs.Network.{Network, IsMonotone, IsInInterval}
 use Rattle.pf_model.specs.Curve.{IsCurve, point_at, cut_at}
 use Rattle.pf_model.specs.CurveLaws.{IsCovered, AreLowest}
-use Rattle.pf_model.specs.Mirror.{other_sense, mirror, turned}
+use Rattle.pf_model.specs.Mirror.{other_sense, mirror, turned_points}
 use Rattle.pf_model.proofs.Search.{size_less}
 use Rattle.pf_model.proofs.Certificate.{at_most_trans, point_is_parameter}
 use Rattle.pf_model.proofs.Unique.{below_or_at_most, curve_unique}
@@ -109,7 +109,7 @@ short_rising net points cuts m rising c =
     let few = size_less (cut_at cuts last) net.sink (omega (arith, full, sink)) cut.without_sink in
     omega (arith, some, many, few, full)
 
-sense_cases : (sense : Sense) → (sense ≡ Rising) ⊎ (sense ≡ Falling)
+pub sense_cases : (sense : Sense) → (sense ≡ Rising) ⊎ (sense ≡ Falling)
 sense_cases Rising = inl refl
 sense_cases Falling = inr refl
 
@@ -118,7 +118,7 @@ pub curve_is_short : (net : Network) (points : List Fraction) (cuts : List (List
 curve_is_short net points cuts m c = elim (sense_cases net.sense) [
   | inl rising ↦ short_rising net points cuts m rising c
   | inr falling ↦
-      let turned_short = short_rising (mirror net) (turned points) (reverse cuts) (monotone_turned net m) (ap other_sense falling) (curve_turned net points cuts c) in
+      let turned_short = short_rising (mirror net) (turned_points points) (reverse cuts) (monotone_turned net m) (ap other_sense falling) (curve_turned net points cuts c) in
       omega (arith, turned_short, length-reverse cuts)
 ]
 

@@ -1,6 +1,6 @@
 -- Answers over networks, and the shapes that their numbers and lists have, whatever they say.
-use Rattle.std.specs.Prelude.{◌≡◌, ℕ, ◌+◌, ◌<◌, ◌≤◌, ◌^◌, ℤ, pos, neg_ℤ, ◌<ℤ◌, ◌≤ℤ◌, Bool, List, length, All}
-use Rattle.pf_model.specs.Fraction.{Fraction, IsParameter, IsLowest}
+use Rattle.std.specs.Prelude.{◌≡◌, ℕ, ◌+◌, ◌<◌, ◌≤◌, ◌^◌, ℤ, pos, neg_ℤ, ◌<ℤ◌, Bool, List, length, All}
+use Rattle.pf_model.specs.Fraction.{Fraction, IsLowest, IsBoundedFraction}
 use Rattle.pf_model.specs.Network.{Network, IsNetworkCut}
 
 -- a cut and a flow at one parameter
@@ -26,12 +26,9 @@ pub record IsWithinSize (bound : ℕ) (number : ℤ) : Type 0 where
   pub low : neg_ℤ (pos bound) <ℤ number
   pub high : number <ℤ pos bound
 
--- a fraction in lowest terms, within the bounds that answers have
+-- a parameter in lowest terms, within the widths that the code keeps
 pub record IsFractionShape (x : Fraction) : Type 0 where
-  pub low : neg_ℤ (pos (2 ^ 73)) ≤ℤ x.p
-  pub high : x.p ≤ℤ pos (2 ^ 73)
-  pub parameter : IsParameter x
-  pub denominator : x.q ≤ℤ pos (2 ^ 46)
+  pub bounds : IsBoundedFraction x
   pub lowest : IsLowest x
 
 -- one number for each arc, each of a size below 2^104

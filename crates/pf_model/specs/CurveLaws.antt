@@ -1,16 +1,36 @@
 -- What holds of the curve of a monotone network.
 use Rattle.std.specs.Prelude.{◌≡◌, ℕ, ◌+◌, ◌<◌, ◌≤◌, ℤ, Bool, List, length}
-use Rattle.pf_model.specs.Fraction.{Fraction, IsAtMost, IsEqual, IsLowest}
-use Rattle.pf_model.specs.Cut.{IsLeast}
+use Rattle.pf_model.specs.Fraction.{Fraction, IsParameter, IsAtMost, IsEqual, IsLowest}
+use Rattle.pf_model.specs.Cut.{IsLeast, IsSmallestLeast}
 use Rattle.pf_model.specs.Flow.{IsGreatest}
 use Rattle.pf_model.specs.Residual.{IsReach}
 use Rattle.pf_model.specs.Network.{Network, IsMonotone, IsInInterval, network_at}
-use Rattle.pf_model.specs.Curve.{IsDivision, IsCurve, CertifiesCurve, IsPoint, point_at, cut_at}
+use Rattle.pf_model.specs.Curve.{IsDivision, IsCurve, CertifiesCurve, SlopesFall, IsPoint, point_at, cut_at}
 
 -- what certifies a curve proves it
 abbrev pub CertificateImpliesCurve : Type 0
 CertificateImpliesCurve = (net : Network) (points : List Fraction) (cuts : List (List Bool)) (flows : List (List ℤ)) → IsMonotone net →
     CertifiesCurve net points cuts flows → IsCurve net points cuts
+
+-- a cut that is the smallest least cut at some parameter of the interval
+pub record IsSmallestSomewhere (net : Network) (side : List Bool) : Type 0 where
+  pub at : Fraction
+  pub inside : IsInInterval net at
+  pub smallest : IsSmallestLeast (network_at net at) side
+
+-- cuts that are least between neighbouring points, whose slopes fall strictly, each the smallest least cut somewhere
+pub record HasLeastParts (net : Network) (points : List Fraction) (cuts : List (List Bool)) : Type 0 where
+  pub division : IsDivision net points cuts
+  pub least : (i : ℕ) → i < length cuts → (x : Fraction) → IsParameter x →
+      IsAtMost (point_at net points i) x → IsAtMost x (point_at net points (i + 1)) →
+      IsLeast (network_at net x) (cut_at cuts i)
+  pub somewhere : (i : ℕ) → i < length cuts → IsSmallestSomewhere net (cut_at cuts i)
+  pub slopes : SlopesFall net cuts
+
+-- these are a curve: each is then the smallest least cut at its own point, whichever the parameter was, and neighbours nest
+abbrev pub LeastPartsAreCurve : Type 0
+LeastPartsAreCurve = (net : Network) (points : List Fraction) (cuts : List (List Bool)) → IsMonotone net →
+    HasLeastParts net points cuts → IsCurve net points cuts
 
 -- each point lies in the interval
 abbrev pub PointsAreInside : Type 0

@@ -1,13 +1,13 @@
 -- What holds of flows, cuts, residual graphs and labels in every network with fixed capacities.
-use Rattle.std.specs.Prelude.{◌≡◌, ℕ, ◌+◌, ◌*◌, ◌≤◌, ℤ, ◌-ℤ◌, ◌≤ℤ◌, Bool, List, get_or, ◌↔◌}
+use Rattle.std.specs.Prelude.{◌≡◌, ℕ, ◌+◌, ◌*◌, ◌≤◌, ℤ, ◌-ℤ◌, ◌≤ℤ◌, Bool, List, slice_index_or, ◌↔◌}
 use Rattle.pf_model.specs.Cut.{FlowNetwork, IsProper, IsCut, IsLeast, IsSmallestLeast, IsLeastValue, IsLeastSize, capacity}
-use Rattle.pf_model.specs.Flow.{IsFlow, IsPreflow, IsActive, IsGreatest, value, leaving, entering}
+use Rattle.pf_model.specs.Flow.{IsFlow, IsPreflow, IsActive, IsGreatest, value, sum_leaving, sum_entering}
 use Rattle.pf_model.specs.Residual.{Reaches, IsReach, HasNoWayOut, HasValidLabels}
 
 -- the value of a flow is what leaves a cut less what enters it, whichever cut it is
 abbrev pub ValueCrossesCut : Type 0
 ValueCrossesCut = (g : FlowNetwork) (flow : List ℤ) (side : List Bool) → IsFlow g flow → IsCut g side →
-    value g flow ≡ leaving g flow side -ℤ entering g flow side
+    value g flow ≡ sum_leaving g flow side -ℤ sum_entering g flow side
 
 -- so it is at most the capacity of each cut
 abbrev pub ValueIsAtMostCapacity : Type 0
@@ -72,4 +72,4 @@ LabelsMakeGreatest = (g : FlowNetwork) (flow : List ℤ) (labels : List ℕ) →
 -- the label of an active node is at most 2 n - 2
 abbrev pub ActiveLabelIsBounded : Type 0
 ActiveLabelIsBounded = (g : FlowNetwork) (flow : List ℤ) (labels : List ℕ) (v : ℕ) → IsProper g → IsPreflow g flow →
-    HasValidLabels g flow labels → IsActive g flow v → get_or labels v 0 + 2 ≤ 2 * g.nodes
+    HasValidLabels g flow labels → IsActive g flow v → slice_index_or labels v 0 + 2 ≤ 2 * g.nodes

@@ -6,8 +6,8 @@ use Rattle.pf_model.specs.declared.Sense.TheVariants.{Rising, Falling}
 use Rattle.pf_model.specs.Fraction.{Fraction}
 use Rattle.pf_model.specs.Network.{Network}
 
-abbrev pub negated : Fraction → Fraction
-negated x = record { p = neg_ℤ x.p; q = x.q }
+abbrev pub negative : Fraction → Fraction
+negative x = record { p = neg_ℤ x.p; q = x.q }
 
 abbrev pub other_sense : Sense → Sense
 other_sense Rising = Falling
@@ -23,11 +23,11 @@ mirror net = record {
   source = net.source;
   sink = net.sink;
   sense = other_sense net.sense;
-  low = negated net.high;
-  high = negated net.low;
+  low = negative net.high;
+  high = negative net.low;
   arcs = map mirror_arc net.arcs;
 }
 
 -- the points of a curve, negated and in reverse order
-abbrev pub turned : List Fraction → List Fraction
-turned points = reverse (map negated points)
+abbrev pub turned_points : List Fraction → List Fraction
+turned_points points = reverse (map negative points)

@@ -1,3 +1,4 @@
+pub mod WritingLemmas
 pub mod RangedNumbers
 pub mod FormSteps
 pub mod FormLemmas

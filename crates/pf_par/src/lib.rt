@@ -11,6 +11,8 @@ mod reading_rules;
 mod reading_state;
 #[cfg(test)]
 mod reading_tests;
+mod writing;
 
 pub use pf_lines::ReadBad;
 pub use reading::read_par;
+pub use writing::write_at;

@@ -1,6 +1,6 @@
 -- The judgement of a text, one line at a time, for every kind of text.
 use Rattle.std.proofs.Common.{◌≡◌, ℕ, suc, ◌+◌, ◌<◌, ◌≤◌, Bool, true, false, cond, eqb, ◌&&◌, List, [], ◌∷◌, length, Option, Some, None, Ok, Err, refl, ap, ◌∙◌}
-use Rattle.std.specs.Prelude.{◌≢◌, ℤ, codes, if◌then◌else◌}
+use Rattle.std.specs.Prelude.{◌≢◌, ℤ, int_le, codes, if◌then◌else◌}
 use Rattle.std.specs.Str.{bytes_eq}
 use Rattle.std.proofs.lemmas.Bool.{lt-ltb, le-ltb}
 use Rattle.pf_text.specs.declared.RuleKind.{RuleKind}
@@ -158,3 +158,31 @@ numbers_by_bad low high patterns field fields none = rw none refl
 pub numbers_by_number : (low high : ℤ) (patterns : List FieldPattern) (field : List ℕ) (fields : List (List ℕ)) (n : ℤ) → whole_of field ≡ Some n
     → numbers_by (number low high ∷ patterns) (field ∷ fields) ≡ with_number (Some n) (numbers_by patterns fields)
 numbers_by_number low high patterns field fields n some = rw some refl
+
+-- later fields that have not their patterns
+pub numbers_by_bad_later : (low high : ℤ) (patterns : List FieldPattern) (field : List ℕ) (fields : List (List ℕ)) → numbers_by patterns fields ≡ None
+    → numbers_by (number low high ∷ patterns) (field ∷ fields) ≡ None
+numbers_by_bad_later low high patterns field fields none = ap (with_number (whole_of field)) none ∙ with_number_none (whole_of field)
+
+-- four numbers
+pub four_numbers : (l k m n : ℤ) (l' k' m' n' : ℤ) (a b c d : List ℕ) (w x y z : ℤ) → whole_of a ≡ Some w → whole_of b ≡ Some x → whole_of c ≡ Some y → whole_of d ≡ Some z
+    → numbers_by (number l l' ∷ number k k' ∷ number m m' ∷ number n n' ∷ []) (a ∷ b ∷ c ∷ d ∷ []) ≡ Some (w ∷ x ∷ y ∷ z ∷ [])
+four_numbers l k m n l' k' m' n' a b c d w x y z ea eb ec ed = rw (ea, eb, ec, ed) refl
+
+-- ---- ranges
+
+pub range_ok : (low high n : ℤ) (patterns : List FieldPattern) (numbers : List ℤ) → (int_le low n && int_le n high) ≡ true → are_in_range patterns numbers ≡ true
+    → are_in_range (number low high ∷ patterns) (n ∷ numbers) ≡ true
+range_ok low high n patterns numbers here later = rw (here, later) refl
+
+pub range_bad : (low high n : ℤ) (patterns : List FieldPattern) (numbers : List ℤ) → (int_le low n && int_le n high) ≡ false
+    → are_in_range (number low high ∷ patterns) (n ∷ numbers) ≡ false
+range_bad low high n patterns numbers here = rw here refl
+
+false_second : (b : Bool) → (b && false) ≡ false
+false_second true = refl
+false_second false = refl
+
+pub range_bad_later : (low high n : ℤ) (patterns : List FieldPattern) (numbers : List ℤ) → are_in_range patterns numbers ≡ false
+    → are_in_range (number low high ∷ patterns) (n ∷ numbers) ≡ false
+range_bad_later low high n patterns numbers later = ap (λ (b : Bool). int_le low n && int_le n high && b) later ∙ false_second (int_le low n && int_le n high)

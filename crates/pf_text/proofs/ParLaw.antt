@@ -284,7 +284,7 @@ header_numbers (n ∷ m ∷ k ∷ numbers) fit = absurd fit.2.2
 -- a network of good parts
 network_is : (n : ℕ) (o : Option ParameterInterval) (source sink : Option ℕ) (arcs : List AffineArc) (net : Network) → 2 ≤ n → n ≤ 1000 → length arcs ≤ 10000
     → IfSome o IsTextInterval → IfSome source (λ s. s < n) → IfSome sink (λ t. t < n) → AreApart source sink → All (IsGivenArc n o source sink) arcs
-    → network_by n o source sink arcs ≡ Ok net → IsGoodNetwork net
+    → network_by n Rising o source sink arcs ≡ Ok net → IsGoodNetwork net
 network_is n (Some interval) (Some s) (Some t) arcs net nodes_low nodes_high few good_interval source sink apart good e =
     let made : Network = record { nodes = n; source = s; sink = t; sense = Rising; low = interval.low; high = interval.high; arcs = arcs } in
     let same : made ≡ net = cc in
@@ -311,7 +311,7 @@ network_is n (Some interval) None sink arcs net nodes_low nodes_high few good_in
 network_is n None source sink arcs net nodes_low nodes_high few good_interval good_source good_sink apart good e = absurd cc
 
 end_is : (state : State Given) (net : Network) → IsGoodState state
-    → network_by (node_count state.header_numbers) state.given.interval state.given.source state.given.sink state.given.arcs ≡ Ok net → IsGoodNetwork net
+    → network_by (node_count state.header_numbers) Rising state.given.interval state.given.source state.given.sink state.given.arcs ≡ Ok net → IsGoodNetwork net
 end_is state net good e =
     let h = header_numbers state.header_numbers good.header in
     let count = good.count in

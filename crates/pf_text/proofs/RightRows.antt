@@ -1,19 +1,20 @@
 -- Right answers on a worked network: the texts of its least cuts, of its whole least-cut function, of a sweep and of a verdict.
-use Rattle.std.proofs.Common.{◌≡◌, ℕ, zero, suc, ◌+◌, ◌<◌, ◌^◌, List, [], ◌∷◌, map, Bool, true, false, refl, arith, inl}
-use Rattle.std.specs.Prelude.{ℤ, pos, ◌≤ℤ◌, ◌<ℤ◌, codes}
+use Rattle.std.proofs.Common.{◌≡◌, ℕ, zero, suc, ◌<◌, ◌^◌, List, [], ◌∷◌, map, Bool, true, false, refl, arith}
+use Rattle.std.specs.Prelude.{ℤ, pos, codes}
 use Rattle.std.specs.Fmt.{digits}
 use Rattle.std.proofs.lemmas.Int.{ints}
 use Rattle.std.proofs.lemmas.List.Elements.{All-nil, All-cons}
-use Rattle.pf_model.specs.Fraction.{Fraction, IsParameter, IsBelow, IsLowest, lowest}
-use Rattle.pf_model.specs.Cut.{FlowNetwork, IsProper, IsCut, IsSmallestLeast, has, capacity}
-use Rattle.pf_model.specs.Flow.{IsFlow, value}
-use Rattle.pf_model.specs.Residual.{Reaches, IsReach}
-use Rattle.pf_model.specs.Network.{IsMonotone, IsNetworkCut, IsInInterval, network_at, cut_b}
-use Rattle.pf_model.specs.Curve.{IsDivision, CertifiesCurve, Meets, point_at, cut_at, flow_at}
+use Rattle.pf_model.specs.Fraction.{Fraction, IsLowest, lowest}
+use Rattle.pf_model.specs.Cut.{IsSmallestLeast, has}
+use Rattle.pf_model.specs.Flow.{IsFlow}
+use Rattle.pf_model.specs.Residual.{IsReach}
+use Rattle.pf_model.specs.Network.{IsMonotone, IsNetworkCut, IsInInterval, network_at}
+use Rattle.pf_model.specs.Curve.{CertifiesCurve}
 use Rattle.pf_model.specs.Answer.{Curve, Row, IsWithinSize, IsFractionShape, IsFlowShape, IsCurveShape}
 use Rattle.pf_model.proofs.Affine.{proper_at}
 use Rattle.pf_model.proofs.Certificate.{certified_is_curve}
-use Rattle.pf_model.proofs.Duality.{tight_from_value, stays, smallest_from_reach}
+use Rattle.pf_model.proofs.CurveTest.{certified_by_tests, reach_from_test}
+use Rattle.pf_model.proofs.Duality.{smallest_from_reach}
 use Rattle.pf_model.proofs.FlowTest.{flow_from_test}
 use Rattle.pf_model.proofs.Lowest.{lowest_is}
 use Rattle.pf_text.specs.Answers.{point_text, curve_text, sweep_text, verdict_text}
@@ -40,14 +41,6 @@ fours = pos 4 ∷ pos 4 ∷ []
 abbrev zeros : List ℤ
 zeros = pos 0 ∷ pos 0 ∷ []
 
--- a side whose capacity is the flow's value, and that the source reaches
-reach_by : (g : FlowNetwork) (flow : List ℤ) (side : List Bool) → IsProper g → IsFlow g flow → IsCut g side → capacity g side ≤ℤ value g flow
-    → ((v : ℕ) → has side v ≡ true → Reaches g flow g.source v) → IsReach g flow side
-reach_by g flow side proper f c most reached = record {
-  full = c.full;
-  exact = λ v low. (reached v, λ walk. stays g flow side (tight_from_value g flow side proper f c most) c.with_source walk.0 v walk.1);
-}
-
 inside : (p : ℕ) → p < 11 → IsInInterval two (whole p)
 inside p small = record { parameter = omega (arith, ints); low = omega (arith, ints); high = omega (arith, ints) }
 
@@ -66,31 +59,26 @@ flow_at_4 = flow_from_test _ _ refl
 flow_at_10 : IsFlow (network_at two (whole 10)) fours
 flow_at_10 = flow_from_test _ _ refl
 
-reached_at_4 : (v : ℕ) → has first_side v ≡ true → Reaches (network_at two (whole 4)) fours 0 v
-reached_at_4 zero h = (0, refl)
-reached_at_4 (suc zero) h = absurd cc
-reached_at_4 (suc (suc zero)) h = absurd cc
-reached_at_4 (suc (suc (suc v))) h = absurd cc
-
--- at 10 the first arc can carry more
-reached_at_10 : (v : ℕ) → has second_side v ≡ true → Reaches (network_at two (whole 10)) fours 0 v
-reached_at_10 zero h = (0, refl)
-reached_at_10 (suc zero) h = (1, (0, refl, record { arc = 0; in_range = omega arith; by = inl (record { from = refl; to = refl; room = omega (arith, ints) }) }))
-reached_at_10 (suc (suc zero)) h = absurd cc
-reached_at_10 (suc (suc (suc v))) h = absurd cc
+reach_at_0 : IsReach (network_at two (whole 0)) zeros first_side
+reach_at_0 = reach_from_test _ _ _ (omega arith) refl
 
 reach_at_4 : IsReach (network_at two (whole 4)) fours first_side
-reach_at_4 = reach_by (network_at two (whole 4)) fours first_side (proper_at two (whole 4) two_is_monotone (inside 4 (omega arith))) flow_at_4
-    (record { full = refl; with_source = refl; without_sink = refl }) (omega (arith, ints)) reached_at_4
+reach_at_4 = reach_from_test _ _ _ (omega arith) refl
 
 reach_at_10 : IsReach (network_at two (whole 10)) fours second_side
-reach_at_10 = reach_by (network_at two (whole 10)) fours second_side (proper_at two (whole 10) two_is_monotone (inside 10 (omega arith))) flow_at_10
-    (record { full = refl; with_source = refl; without_sink = refl }) (omega (arith, ints)) reached_at_10
+reach_at_10 = reach_from_test _ _ _ (omega arith) refl
+
+smallest_by : (p : ℕ) (flow : List ℤ) (side : List Bool) → p < 11 → IsFlow (network_at two (whole p)) flow → IsReach (network_at two (whole p)) flow side → has side 2 ≡ false
+    → IsSmallestLeast (network_at two (whole p)) side
+smallest_by p flow side small f r out = smallest_from_reach (network_at two (whole p)) flow side (proper_at two (whole p) two_is_monotone (inside p small)) f r out
 
 -- ---- shapes
 
 whole_shape : (p : ℕ) → p < 11 → IsLowest (whole p) → IsFractionShape (whole p)
-whole_shape p small alone = record { low = omega (arith, ints); high = omega (arith, ints); parameter = omega (arith, ints); denominator = omega (arith, ints); lowest = alone }
+whole_shape p small alone = record {
+  bounds = record { p_low = omega (arith, ints); p_high = omega (arith, ints); parameter = omega (arith, ints); q_high = omega (arith, ints) };
+  lowest = alone;
+}
 
 lowest_0 : IsLowest (whole 0)
 unfolding lowest
@@ -124,7 +112,7 @@ at_is_right = record {
   parameter = refl;
   best = record {
     parameter = omega (arith, ints);
-    smallest = smallest_from_reach (network_at two (whole 4)) fours first_side (proper_at two (whole 4) two_is_monotone (inside 4 (omega arith))) flow_at_4 reach_at_4 refl;
+    smallest = smallest_by 4 fours first_side (omega arith) flow_at_4 reach_at_4 refl;
     flow_is = flow_at_4;
     value_is = refl;
   };
@@ -143,61 +131,23 @@ curve = record {
 abbrev curve_lines : List ℕ
 curve_lines = text (codes "o curve" ∷ codes "k 2" ∷ codes "b 0 0 1 0" ∷ codes "s 1 0 1 100" ∷ codes "b 1 4 1 4" ∷ codes "s 2 4 0 110" ∷ codes "b 2 10 1 4" ∷ codes "f 0 0 0" ∷ codes "f 1 4 4" ∷ codes "f 2 4 4" ∷ codes "end" ∷ [])
 
-division : IsDivision two curve.points curve.cuts
-division = record { some = omega arith; count = refl; parameters = parameters; low = refl; high = refl; rise = rise }
-  where
-    parameters : (i : ℕ) → i < 3 → IsParameter (point_at two curve.points i)
-    parameters zero low = omega (arith, ints)
-    parameters (suc zero) low = omega (arith, ints)
-    parameters (suc (suc zero)) low = omega (arith, ints)
-    parameters (suc (suc (suc i))) low = absurd (omega (arith, low))
-
-    rise : (i : ℕ) → i < 2 → IsBelow (point_at two curve.points i) (point_at two curve.points (i + 1))
-    rise zero low = omega (arith, ints)
-    rise (suc zero) low = omega (arith, ints)
-    rise (suc (suc i)) low = absurd (omega (arith, low))
-
-flows_are : (j : ℕ) → j < 3 → IsFlow (network_at two (point_at two curve.points j)) (flow_at curve.flows j)
-flows_are zero low = flow_at_0
-flows_are (suc zero) low = flow_at_4
-flows_are (suc (suc zero)) low = flow_at_10
-flows_are (suc (suc (suc j))) low = absurd (omega (arith, low))
-
-meets_left : (i : ℕ) → i < 2 → Meets two curve.points curve.cuts curve.flows i i
-meets_left zero low = refl
-meets_left (suc zero) low = refl
-meets_left (suc (suc i)) low = absurd (omega (arith, low))
-
-meets_right : (i : ℕ) → i < 2 → Meets two curve.points curve.cuts curve.flows (i + 1) i
-meets_right zero low = refl
-meets_right (suc zero) low = refl
-meets_right (suc (suc i)) low = absurd (omega (arith, low))
-
-reaches : (i : ℕ) → i < 2 → IsReach (network_at two (point_at two curve.points (i + 1))) (flow_at curve.flows (i + 1)) (cut_at curve.cuts i)
-reaches zero low = reach_at_4
-reaches (suc zero) low = reach_at_10
-reaches (suc (suc i)) low = absurd (omega (arith, low))
-
-cuts_are : (i : ℕ) → i < 2 → IsNetworkCut two (cut_at curve.cuts i)
-cuts_are zero low = first_cut
-cuts_are (suc zero) low = second_cut
-cuts_are (suc (suc i)) low = absurd (omega (arith, low))
-
-slopes_fall : (i : ℕ) → i + 1 < 2 → cut_b two (cut_at curve.cuts (i + 1)) <ℤ cut_b two (cut_at curve.cuts i)
-slopes_fall zero low = omega (arith, ints)
-slopes_fall (suc i) low = absurd (omega (arith, low))
-
 certificate : CertifiesCurve two curve.points curve.cuts curve.flows
-certificate = record {
-  division = division;
-  count = refl;
-  flow_is = flows_are;
-  left = meets_left;
-  right = meets_right;
-  reach = reaches;
-  cut = cuts_are;
-  slopes = slopes_fall;
-}
+certificate = certified_by_tests two curve.points curve.cuts curve.flows (record {
+  source = omega arith;
+  some = omega arith;
+  point_count = refl;
+  flow_count = refl;
+  parameters = refl;
+  low = refl;
+  high = refl;
+  rise = refl;
+  flow_is = refl;
+  left = refl;
+  right = refl;
+  reach = refl;
+  cut = refl;
+  slopes = refl;
+})
 
 curve_shape : IsCurveShape two curve
 curve_shape = record {
@@ -233,21 +183,11 @@ no_is_right = record { verdict = false; exact = (λ same. absurd cc, λ certifie
 
 -- ---- a sweep of one step
 
-reached_at_0 : (v : ℕ) → has first_side v ≡ true → Reaches (network_at two (whole 0)) zeros 0 v
-reached_at_0 zero h = (0, refl)
-reached_at_0 (suc zero) h = absurd cc
-reached_at_0 (suc (suc zero)) h = absurd cc
-reached_at_0 (suc (suc (suc v))) h = absurd cc
-
-reach_at_0 : IsReach (network_at two (whole 0)) zeros first_side
-reach_at_0 = reach_by (network_at two (whole 0)) zeros first_side (proper_at two (whole 0) two_is_monotone (inside 0 (omega arith))) flow_at_0
-    (record { full = refl; with_source = refl; without_sink = refl }) (omega (arith, ints)) reached_at_0
-
 smallest_at_0 : IsSmallestLeast (network_at two (whole 0)) first_side
-smallest_at_0 = smallest_from_reach (network_at two (whole 0)) zeros first_side (proper_at two (whole 0) two_is_monotone (inside 0 (omega arith))) flow_at_0 reach_at_0 refl
+smallest_at_0 = smallest_by 0 zeros first_side (omega arith) flow_at_0 reach_at_0 refl
 
 smallest_at_10 : IsSmallestLeast (network_at two (whole 10)) second_side
-smallest_at_10 = smallest_from_reach (network_at two (whole 10)) fours second_side (proper_at two (whole 10) two_is_monotone (inside 10 (omega arith))) flow_at_10 reach_at_10 refl
+smallest_at_10 = smallest_by 10 fours second_side (omega arith) flow_at_10 reach_at_10 refl
 
 abbrev rows : List Row
 rows = record { at = whole 0; value = pos 0; size = 1 } ∷ record { at = whole 10; value = pos 4; size = 2 } ∷ []

@@ -5,7 +5,7 @@ use Rattle.std.specs.List.{position, position_or_len}
 use Rattle.pf_model.specs.Fraction.{Fraction}
 use Rattle.pf_text.specs.Numbers.{natural_of, whole_of}
 use Rattle.pf_text.specs.Par.{billion}
-use Rattle.pf_text.specs.Asked.{split_at_slash, natural_within, integer_within, ratio, parameter_of, two_words, command_of}
+use Rattle.pf_text.specs.Asked.{split_at_slash, natural_within, integer_within, fraction_of_numbers, parameter_of, two_words, command_of}
 use Rattle.pf_text.proofs.LinesLemmas.{at_position, no_position}
 
 -- ---- the number of words
@@ -60,7 +60,7 @@ split_none (b ∷ bytes) e = by (split_none bytes) (eqb b 47) refl
 
 -- the fraction of the two parts
 abbrev pub fraction_of_parts : List ℕ → List ℕ → Option Fraction
-fraction_of_parts front back = ratio (integer_within (neg_ℤ (pos billion)) (pos billion) (whole_of front)) (natural_within 1 billion (natural_of back))
+fraction_of_parts front back = fraction_of_numbers (integer_within (neg_ℤ (pos billion)) (pos billion) (whole_of front)) (natural_within 1 billion (natural_of back))
 
 pub parameter_of_parts : (bytes : List ℕ) (i : ℕ) → position (λ b. eqb b 47) bytes ≡ Some i → parameter_of bytes ≡ fraction_of_parts (take i bytes) (drop (i + 1) bytes)
 unfolding parameter_of

@@ -1,10 +1,13 @@
--- What holds of every text that is accepted.
-use Rattle.std.specs.Prelude.{◌≡◌, ℕ, ◌≤◌, List, length, All, pos, neg_ℤ, ◌≤ℤ◌, Ok}
+-- What holds of every text.
+use Rattle.std.specs.Prelude.{◌≡◌, ℕ, ◌≤◌, Bool, List, length, All, pos, neg_ℤ, ◌≤ℤ◌, Ok}
 use Rattle.pf_model.specs.declared.AffineArc.{AffineArc}
 use Rattle.pf_model.specs.Fraction.{Fraction, IsParameter, IsLowest}
 use Rattle.pf_model.specs.Network.{Network, IsMonotone}
+use Rattle.pf_model.specs.Answer.{Point, Curve, Row, IsPointShape, IsCurveShape, IsRowShape}
 use Rattle.pf_text.specs.Kinds.{Accepted, problem_of}
 use Rattle.pf_text.specs.Par.{billion, par}
+use Rattle.pf_text.specs.Answers.{point_text, curve_text, sweep_text, verdict_text}
+use Rattle.pf_text.specs.Right.{IsRightCheck}
 
 -- an end of an interval that a text gives, in lowest terms
 pub record IsTextFraction (x : Fraction) : Type 0 where
@@ -37,3 +40,20 @@ AcceptedIsMonotone = (text : List ℕ) (read : Accepted Network) → problem_of 
 -- within the limits of texts
 abbrev pub AcceptedIsTextNetwork : Type 0
 AcceptedIsTextNetwork = (text : List ℕ) (read : Accepted Network) → problem_of par text ≡ Ok read → IsTextNetwork read.problem
+
+-- answers of the right shape with equal texts are equal
+abbrev pub PointFromText : Type 0
+PointFromText = (net : Network) (a b : Point) → IsPointShape net a → IsPointShape net b → point_text net a ≡ point_text net b → a ≡ b
+
+abbrev pub CurveFromText : Type 0
+CurveFromText = (net : Network) (a b : Curve) → IsCurveShape net a → IsCurveShape net b → curve_text net a ≡ curve_text net b → a ≡ b
+
+abbrev pub RowsFromText : Type 0
+RowsFromText = (a b : List Row) → All IsRowShape a → All IsRowShape b → sweep_text a ≡ sweep_text b → a ≡ b
+
+abbrev pub VerdictFromText : Type 0
+VerdictFromText = (a b : Bool) → verdict_text a ≡ verdict_text b → a ≡ b
+
+-- one of `yes` and `no` is the right verdict, and not the other
+abbrev pub VerdictIsUnique : Type 0
+VerdictIsUnique = (net : Network) (rest a b : List ℕ) → IsRightCheck net rest a → IsRightCheck net rest b → a ≡ b

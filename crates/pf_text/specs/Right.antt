@@ -1,5 +1,5 @@
 -- Which texts are right answers to what was asked.
-use Rattle.std.specs.Prelude.{◌≡◌, ◌↔◌, ℕ, ◌+◌, ◌<◌, Bool, true, List, length, get_or, pos, ◌+ℤ◌, ◌-ℤ◌, ◌*ℤ◌}
+use Rattle.std.specs.Prelude.{◌≡◌, ◌↔◌, ℕ, ◌+◌, ◌<◌, Bool, true, List, length, slice_index_or, pos, ◌+ℤ◌, ◌-ℤ◌, ◌*ℤ◌}
 use Rattle.pf_model.specs.Fraction.{Fraction, lowest}
 use Rattle.pf_model.specs.Cut.{IsLeastValue, IsLeastSize}
 use Rattle.pf_model.specs.Network.{Network, network_at}
@@ -40,7 +40,7 @@ pub record IsRightRow (net : Network) (x : Fraction) (row : Row) : Type 0 where
 
 -- row j, and past the last row one of the low end
 abbrev pub row_at : Network → List Row → ℕ → Row
-row_at net rows j = get_or rows j (record { at = net.low; value = pos 0; size = 0 })
+row_at net rows j = slice_index_or rows j (record { at = net.low; value = pos 0; size = 0 })
 
 -- `sweep`: a row at each end of k equal steps through the interval
 pub record IsRightSweep (k : ℕ) (net : Network) (text : List ℕ) : Type 0 where

@@ -1,6 +1,6 @@
 //! What holds of every text: each law is the contract of a function that does nothing.
 
-ghost use Rattle.pf_text.specs.Laws.{AcceptedIsMonotone, AcceptedIsTextNetwork};
+ghost use Rattle.pf_text.specs.Laws.{AcceptedIsMonotone, AcceptedIsTextNetwork, PointFromText, CurveFromText, RowsFromText, VerdictFromText, VerdictIsUnique};
 
 /// A text of the kind `par` that is accepted gives a monotone network within the limits of texts: 2 to 1000 nodes, at most
 /// 10000 arcs, coefficients and the two numbers of each end of the interval at most 1000000000 in size, and these ends in
@@ -8,4 +8,17 @@ ghost use Rattle.pf_text.specs.Laws.{AcceptedIsMonotone, AcceptedIsTextNetwork};
 pub fn accepted_networks_are_monotone()
     ensures monotone { AcceptedIsMonotone }
     ensures bounds { AcceptedIsTextNetwork }
+{}
+
+/// Two answers of the right shape for one network that have equal texts are equal.
+pub fn texts_determine_answers()
+    ensures point { PointFromText }
+    ensures curve { CurveFromText }
+    ensures rows { RowsFromText }
+    ensures verdict { VerdictFromText }
+{}
+
+/// For each text behind a network there is one right verdict.
+pub fn verdict_is_unique()
+    ensures { VerdictIsUnique }
 {}

@@ -1,10 +1,16 @@
 //! The curve of a monotone network.
 
-ghost use Rattle.pf_model.specs.CurveLaws.{CertificateImpliesCurve, PointsAreInside, CurveCovers, CurveIsShort, OneCurve, OneCurveInLowestTerms, PointOfGreatest};
+ghost use Rattle.pf_model.specs.CurveLaws.{CertificateImpliesCurve, LeastPartsAreCurve, PointsAreInside, CurveCovers, CurveIsShort, OneCurve, OneCurveInLowestTerms, PointOfGreatest};
 
 /// What certifies a curve proves it: a few comparisons at its points stand for least cuts at every parameter.
 pub fn certificate_implies_curve()
     ensures { CertificateImpliesCurve }
+{}
+
+/// Cuts that are least between neighbouring points, with slopes that fall strictly, are a curve once each is the smallest
+/// least cut at some parameter, whichever: it is then the smallest at its own point, and neighbours nest.
+pub fn least_parts_are_curve()
+    ensures { LeastPartsAreCurve }
 {}
 
 /// The points of a curve lie in the interval, and for each parameter of the interval the cut between its neighbouring

@@ -1,5 +1,5 @@
-use Rattle.std.proofs.Common.{◌≡◌, ℕ, ◌^◌, ◌<◌, ◌≤◌, length, replicate, arith, ap, ◌∙◌, set, get_or, to_z, of_z}
-use Rattle.std.specs.Prelude.{◌+ℤ◌, ◌-ℤ◌, pos}
+use Rattle.std.proofs.Common.{◌≡◌, ◌<◌, length, arith, ap, ◌∙◌, set, to_z, of_z}
+use Rattle.std.specs.Prelude.{◌+ℤ◌}
 use Rattle.std.proofs.lemmas.Int.{ints}
 use Rattle.pf_model.specs.Cut.{at_arc}
 use Rattle.pf_frame.proofs.Balances.{balances_start, balances_more, balances_all, raised_within}

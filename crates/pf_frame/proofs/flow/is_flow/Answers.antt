@@ -15,7 +15,7 @@ returns-then-not-is_within-clause-exact c = (
 pub returns-clause-exact : goal.returns-clause-exact
 returns-clause-exact c = (
   λ told. flow_of_balanced c.args.frame.now c.args.caps.now c.args.flow.now c.balance.new.sums c.args.s c.args.t c.requires.caps c.requires.full (c.if-not-is_within.ensures.0 refl)
-  c.balance.ensures (λ v low. c.is_balanced.ensures.0 told v (omega (arith, low, c.nodes.ensures.value))),
+      c.balance.ensures (λ v low. c.is_balanced.ensures.0 told v (omega (arith, low, c.nodes.ensures.value))),
   λ flow. c.is_balanced.ensures.1
-  (λ v low. balanced_of_flow c.args.frame.now c.args.caps.now c.args.flow.now c.balance.new.sums c.args.s c.args.t c.balance.ensures flow v (omega (arith, low, c.nodes.ensures.value))),
+      (λ v low. balanced_of_flow c.args.frame.now c.args.caps.now c.args.flow.now c.balance.new.sums c.args.s c.args.t c.balance.ensures flow v (omega (arith, low, c.nodes.ensures.value))),
 )

@@ -1,5 +1,4 @@
-use Rattle.std.proofs.Common.{◌≡◌, ap, arith, get_or, to_z, of_z, slice_set}
-use Rattle.std.specs.Prelude.{◌+ℤ◌, pos}
+use Rattle.std.proofs.Common.{ap, arith, slice_set}
 use Rattle.std.proofs.lemmas.Int.{ints}
 use Rattle.pf_frame.proofs.flow.raise.Goals as goal
 

@@ -1,4 +1,4 @@
-use Rattle.std.proofs.Common.{refl, ◌++◌, [], Ok, Err}
+use Rattle.std.proofs.Common.{◌++◌, [], Ok, Err}
 use Rattle.std.proofs.lemmas.List.{append-nil}
 use Rattle.std.proofs.lemmas.Result.{err_from_is_err_and}
 use Rattle.pf_io.specs.Printing.{Adds}

@@ -1,0 +1,5 @@
+pub mod PointLemmas
+pub mod Certifying
+pub mod Envelopes
+pub mod Filling
+pub mod Pushing

@@ -1,0 +1,42 @@
+-- Verdicts on texts of curves.
+use Rattle.std.proofs.Common.{◌≡◌, ℕ, Bool, true, false, List, refl, sym, ap, subst, ◌∙◌}
+use Rattle.std.specs.Prelude.{◌↔◌}
+use Rattle.pf_model.specs.Network.{Network}
+use Rattle.pf_model.specs.Curve.{CertifiesCurve}
+use Rattle.pf_model.specs.Answer.{Curve, IsCurveShape}
+use Rattle.pf_text.specs.Answers.{curve_text, verdict_text}
+use Rattle.pf_text.specs.Right.{IsRightCheck}
+use Rattle.pf_text.proofs.SameCurves.{same_curve}
+
+abbrev Holds : Network → Curve → Type 0
+Holds net curve = CertifiesCurve net curve.points curve.cuts curve.flows
+
+-- the text behind the problem is that of a curve of the right shape: the verdict is whether its certificate holds
+pub verdict_on_curve : (net : Network) (rest : List ℕ) (curve : Curve) (verdict : Bool) → IsCurveShape net curve → rest ≡ curve_text net curve
+    → (verdict ≡ true) ↔ CertifiesCurve net curve.points curve.cuts curve.flows → IsRightCheck net rest (verdict_text verdict)
+verdict_on_curve net rest curve verdict shape text_is exact = record {
+  verdict = verdict;
+  exact = (
+    λ yes'. record { curve = curve; shape = shape; certificate = exact.0 yes'; text_is = text_is },
+    λ certified. exact.1 (subst (Holds net) (same_curve net certified.curve curve certified.shape shape (sym certified.text_is ∙ text_is)) certified.certificate),
+  );
+  text_is = refl;
+}
+
+-- it is the text of no such curve
+pub verdict_on_other : (net : Network) (rest : List ℕ) → ((curve : Curve) → IsCurveShape net curve → rest ≡ curve_text net curve → ⊥) → IsRightCheck net rest (verdict_text false)
+verdict_on_other net rest none = record {
+  verdict = false;
+  exact = (λ same. absurd cc, λ certified. absurd (none certified.curve certified.shape certified.text_is));
+  text_is = refl;
+}
+
+equal_tests : (a b : Bool) → (a ≡ true → b ≡ true) → (b ≡ true → a ≡ true) → a ≡ b
+equal_tests true b f g = sym (f refl)
+equal_tests false true f g = g refl
+equal_tests false false f g = refl
+
+-- there is one right verdict
+pub one_verdict : (net : Network) (rest text other : List ℕ) → IsRightCheck net rest text → IsRightCheck net rest other → text ≡ other
+one_verdict net rest text other a b =
+    a.text_is ∙ ap verdict_text (equal_tests a.verdict b.verdict (λ t. b.exact.1 (a.exact.0 t)) (λ t. a.exact.1 (b.exact.0 t))) ∙ sym b.text_is

@@ -1,0 +1,195 @@
+-- Answers of the right shape with equal texts are equal.
+use Rattle.std.proofs.Common.{◌≡◌, ℕ, ◌+◌, ◌-◌, ◌<◌, ◌≤◌, ◌^◌, List, [], ◌∷◌, ◌++◌, length, get_or, drop, map, refl, sym, ap, ◌∙◌, append_assoc, arith}
+use Rattle.std.specs.Prelude.{◌≢◌, ℤ, Bool, true, false, nat_abs, All, codes}
+use Rattle.std.specs.List.{AllByRecursion}
+use Rattle.std.specs.Fmt.{decimal, signed_decimal}
+use Rattle.std.proofs.lemmas.Int.{ints}
+use Rattle.std.proofs.lemmas.List.{append-nil}
+use Rattle.std.proofs.lemmas.List.Elements.{recursion_from_All}
+use Rattle.pf_model.specs.Fraction.{Fraction}
+use Rattle.pf_model.specs.Network.{Network, IsNetworkCut}
+use Rattle.pf_model.specs.Answer.{Point, Row, IsWithinSize, IsFractionShape, IsFlowShape, IsPointShape, IsRowShape}
+use Rattle.pf_text.specs.Answers.{line, point_fields, cut_fields, point_text, rows_text, sweep_text, verdict_text}
+use Rattle.pf_text.proofs.NumbersLemmas.{one_number}
+use Rattle.pf_text.proofs.TextLines.{ArePlain, lines_text, lines_text-append, same_lines, decimal_plain, signed_plain, numbers_plain, side_plain, same_side, same_decimal}
+
+-- ---- parts
+
+within_digits : (bound : ℕ) (x : ℤ) → bound ≤ 2 ^ 119 → IsWithinSize bound x → nat_abs x < 10 ^ 64
+within_digits bound x most size =
+    let low = size.low in
+    let high = size.high in
+    omega (arith, ints, low, high)
+
+abbrev fraction_of : ℤ → ℤ → Fraction
+fraction_of p q = record { p = p; q = q }
+
+of_parts : (p p' q q' : ℤ) → p ≡ p' → q ≡ q' → fraction_of p q ≡ fraction_of p' q'
+of_parts p p' q q' e f = cc
+
+pub same_fraction : (x y : Fraction) → IsFractionShape x → IsFractionShape y → signed_decimal x.p ≡ signed_decimal y.p → signed_decimal x.q ≡ signed_decimal y.q → x ≡ y
+same_fraction x y shape shape' p q =
+    let size : (z : Fraction) → IsFractionShape z → (nat_abs z.p < 10 ^ 64) × (nat_abs z.q < 10 ^ 64) = λ z s. (let a = s.bounds.p_low in let b = s.bounds.p_high in omega (arith, ints, a, b), let c = s.bounds.parameter in let d = s.bounds.q_high in omega (arith, ints, c, d)) in
+    let same_p = one_number x.p y.p (size x shape).0 (size y shape').0 p in
+    let same_q = one_number x.q y.q (size x shape).1 (size y shape').1 q in
+    of_parts x.p y.p x.q y.q same_p same_q
+
+same_numbers : (a b : List ℤ) → AllByRecursion (IsWithinSize (2 ^ 104)) a → AllByRecursion (IsWithinSize (2 ^ 104)) b → map signed_decimal a ≡ map signed_decimal b → a ≡ b
+same_numbers [] [] sa sb e = refl
+same_numbers [] (y ∷ b) sa sb e = absurd cc
+same_numbers (x ∷ a) [] sa sb e = absurd cc
+same_numbers (x ∷ a) (y ∷ b) sa sb e =
+    let first : signed_decimal x ≡ signed_decimal y = cc in
+    let later : map signed_decimal a ≡ map signed_decimal b = cc in
+    let here = one_number x y (within_digits (2 ^ 104) x (omega arith) sa.0) (within_digits (2 ^ 104) y (omega arith) sb.0) first in
+    let back = same_numbers a b sa.1 sb.1 later in
+    cc
+
+pub same_flow : (net : Network) (a b : List ℤ) → IsFlowShape net a → IsFlowShape net b → map signed_decimal a ≡ map signed_decimal b → a ≡ b
+same_flow net a b sa sb e = same_numbers a b (recursion_from_All (IsWithinSize (2 ^ 104)) a sa.each) (recursion_from_All (IsWithinSize (2 ^ 104)) b sb.each) e
+
+pub some_node : (net : Network) (side : List Bool) → IsNetworkCut net side → 0 < length side
+some_node net [] cut = absurd (let h = cut.with_source in cc)
+some_node net (b ∷ side) cut = omega arith
+
+pub point_plain : (net : Network) (at : Fraction) (flow : List ℤ) → ArePlain (point_fields net at flow)
+point_plain net at flow = (signed_plain _, (signed_plain _, (signed_plain _, tt)))
+
+pub cut_plain : (net : Network) (side : List Bool) → 0 < length side → ArePlain (cut_fields net side)
+cut_plain net side some = (signed_plain _, (signed_plain _, (side_plain side some, tt)))
+
+-- ---- a point
+
+abbrev point_lines : Network → Point → List (List (List ℕ))
+point_lines net point =
+    (codes "o" ∷ codes "at" ∷ []) ∷ (codes "b" ∷ point_fields net point.at point.flow) ∷ (codes "s" ∷ cut_fields net point.side)
+    ∷ (codes "f" ∷ map signed_decimal point.flow) ∷ (codes "end" ∷ []) ∷ []
+
+pub five : (a b c d e : List ℕ) → a ++ b ++ c ++ d ++ e ≡ a ++ (b ++ (c ++ (d ++ (e ++ []))))
+five a b c d e = simp (append_assoc, append-nil)
+
+point_text_is : (net : Network) (point : Point) → point_text net point ≡ lines_text (point_lines net point)
+unfolding point_text
+point_text_is net point =
+    five (line (codes "o" ∷ codes "at" ∷ [])) (line (codes "b" ∷ point_fields net point.at point.flow)) (line (codes "s" ∷ cut_fields net point.side))
+    (line (codes "f" ∷ map signed_decimal point.flow)) (line (codes "end" ∷ []))
+
+point_lines_plain : (net : Network) (point : Point) → IsPointShape net point → AllByRecursion ArePlain (point_lines net point)
+point_lines_plain net point shape = (
+  (record { some = omega arith; all = refl }, (record { some = omega arith; all = refl }, tt)),
+  (
+    (record { some = omega arith; all = refl }, point_plain net point.at point.flow),
+    (
+      (record { some = omega arith; all = refl }, cut_plain net point.side (some_node net point.side shape.side)),
+      (
+        (record { some = omega arith; all = refl }, numbers_plain point.flow),
+        ((record { some = omega arith; all = refl }, tt), tt),
+      ),
+    ),
+  ),
+)
+
+abbrev point_of : Fraction → List Bool → List ℤ → Point
+point_of at side flow = record { at = at; side = side; flow = flow }
+
+point_of_parts : (at at' : Fraction) (side side' : List Bool) (flow flow' : List ℤ) → at ≡ at' → side ≡ side' → flow ≡ flow'
+    → point_of at side flow ≡ point_of at' side' flow'
+point_of_parts at at' side side' flow flow' e f g = cc
+
+-- a field of a line
+abbrev pub field_at : ℕ → ℕ → List (List (List ℕ)) → List ℕ
+field_at i j lines = get_or (get_or lines i []) j []
+
+pub same_point : (net : Network) (a b : Point) → IsPointShape net a → IsPointShape net b → point_text net a ≡ point_text net b → a ≡ b
+same_point net a b sa sb e =
+    let lines : point_lines net a ≡ point_lines net b =
+    same_lines (point_lines net a) (point_lines net b) (point_lines_plain net a sa) (point_lines_plain net b sb) (sym (point_text_is net a) ∙ e ∙ point_text_is net b) in
+    let at = same_fraction a.at b.at sa.at sb.at (ap (field_at 1 1) lines) (ap (field_at 1 2) lines) in
+    let side = same_side a.side b.side (ap (field_at 2 3) lines) in
+    let flow = same_flow net a.flow b.flow sa.flow sb.flow (ap (λ (ls : List (List (List ℕ))). drop 1 (get_or ls 3 [])) lines) in
+    point_of_parts a.at b.at a.side b.side a.flow b.flow at side flow
+
+-- ---- a verdict
+
+pub same_verdict : (a b : Bool) → verdict_text a ≡ verdict_text b → a ≡ b
+unfolding verdict_text
+same_verdict true true e = refl
+same_verdict false false e = refl
+same_verdict true false e = absurd (let byte = ap (λ (t : List ℕ). get_or t 8 0) e in omega (arith, byte))
+same_verdict false true e = absurd (let byte = ap (λ (t : List ℕ). get_or t 8 0) e in omega (arith, byte))
+
+-- ---- rows of a sweep
+
+abbrev row_lines : ℕ → List Row → List (List (List ℕ))
+row_lines j [] = []
+row_lines j (row ∷ rows) = (codes "x" ∷ decimal j ∷ signed_decimal row.at.p ∷ signed_decimal row.at.q ∷ signed_decimal row.value ∷ decimal row.size ∷ []) ∷ row_lines (j + 1) rows
+
+row_lines_plain : (j : ℕ) (rows : List Row) → AllByRecursion ArePlain (row_lines j rows)
+row_lines_plain j [] = tt
+row_lines_plain j (row ∷ rows) =
+    ((record { some = omega arith; all = refl }, (decimal_plain j, (signed_plain _, (signed_plain _, (signed_plain _, (decimal_plain _, tt)))))), row_lines_plain (j + 1) rows)
+
+rows_text_is : (j : ℕ) (rows : List Row) → rows_text j rows ≡ lines_text (row_lines j rows)
+rows_text_is j [] = refl
+rows_text_is j (row ∷ rows) =
+    ap (λ (t : List ℕ). line (codes "x" ∷ decimal j ∷ signed_decimal row.at.p ∷ signed_decimal row.at.q ∷ signed_decimal row.value ∷ decimal row.size ∷ []) ++ t) (rows_text_is (j + 1) rows)
+
+-- the first byte of the first field of the first line
+abbrev pub mark : List (List (List ℕ)) → ℕ
+mark lines = get_or (field_at 0 0 lines) 0 0
+
+abbrev row_of : Fraction → ℤ → ℕ → Row
+row_of at value size = record { at = at; value = value; size = size }
+
+row_of_parts : (at at' : Fraction) (value value' : ℤ) (size size' : ℕ) → at ≡ at' → value ≡ value' → size ≡ size'
+    → row_of at value size ≡ row_of at' value' size'
+row_of_parts at at' value value' size size' e f g = cc
+
+small_size : (n : ℕ) → n ≤ 2 ^ 13 → n < 10 ^ 64
+small_size n small = omega (arith, small)
+
+same_rows_by : (j : ℕ) (a b : List Row) (tail tail' : List (List (List ℕ))) → AllByRecursion IsRowShape a → AllByRecursion IsRowShape b → mark tail ≢ 120 → mark tail' ≢ 120
+    → row_lines j a ++ tail ≡ row_lines j b ++ tail' → a ≡ b
+same_rows_by j [] [] tail tail' sa sb other other' e = refl
+same_rows_by j [] (row ∷ b) tail tail' sa sb other other' e = absurd (other (ap mark e))
+same_rows_by j (row ∷ a) [] tail tail' sa sb other other' e = absurd (other' (sym (ap mark e)))
+same_rows_by j (x ∷ a) (y ∷ b) tail tail' sa sb other other' e =
+    let at = same_fraction x.at y.at sa.0.at sb.0.at (ap (field_at 0 2) e) (ap (field_at 0 3) e) in
+    let value = one_number x.value y.value (within_digits (2 ^ 119) x.value (omega arith) sa.0.value) (within_digits (2 ^ 119) y.value (omega arith) sb.0.value) (ap (field_at 0 4) e) in
+    let size = same_decimal x.size y.size (small_size x.size sa.0.size) (small_size y.size sb.0.size) (ap (field_at 0 5) e) in
+    let here : x ≡ y = row_of_parts x.at y.at x.value y.value x.size y.size at value size in
+    let back : a ≡ b = same_rows_by (j + 1) a b tail tail' sa.1 sb.1 other other' (ap (drop 1) e) in
+    ap (λ (row : Row). row ∷ a) here ∙ ap (λ (rows : List Row). y ∷ rows) back
+
+abbrev sweep_lines : List Row → List (List (List ℕ))
+sweep_lines rows = (codes "o" ∷ codes "sweep" ∷ []) ∷ (codes "k" ∷ decimal (length rows - 1) ∷ []) ∷ (row_lines 0 rows ++ (codes "end" ∷ []) ∷ [])
+
+pub four : (a b c d : List ℕ) → a ++ b ++ c ++ d ≡ a ++ (b ++ (c ++ (d ++ [])))
+four a b c d = simp (append_assoc, append-nil)
+
+sweep_text_is : (rows : List Row) → sweep_text rows ≡ lines_text (sweep_lines rows)
+unfolding sweep_text
+sweep_text_is rows =
+    four (line (codes "o" ∷ codes "sweep" ∷ [])) (line (codes "k" ∷ decimal (length rows - 1) ∷ [])) (rows_text 0 rows) (line (codes "end" ∷ []))
+    ∙ ap (λ (t : List ℕ). line (codes "o" ∷ codes "sweep" ∷ []) ++ (line (codes "k" ∷ decimal (length rows - 1) ∷ []) ++ t))
+    (ap (λ (t : List ℕ). t ++ (line (codes "end" ∷ []) ++ [])) (rows_text_is 0 rows) ∙ sym (lines_text-append (row_lines 0 rows) ((codes "end" ∷ []) ∷ [])))
+
+pub all_plain : (a b : List (List (List ℕ))) → AllByRecursion ArePlain a → AllByRecursion ArePlain b → AllByRecursion ArePlain (a ++ b)
+all_plain [] b pa pb = pb
+all_plain (parts ∷ a) b pa pb = (pa.0, all_plain a b pa.1 pb)
+
+pub end_plain : AllByRecursion ArePlain ((codes "end" ∷ []) ∷ [])
+end_plain = ((record { some = omega arith; all = refl }, tt), tt)
+
+sweep_lines_plain : (rows : List Row) → AllByRecursion ArePlain (sweep_lines rows)
+sweep_lines_plain rows = (
+  (record { some = omega arith; all = refl }, (record { some = omega arith; all = refl }, tt)),
+  ((record { some = omega arith; all = refl }, (decimal_plain _, tt)), all_plain (row_lines 0 rows) ((codes "end" ∷ []) ∷ []) (row_lines_plain 0 rows) end_plain),
+)
+
+pub same_rows : (a b : List Row) → All IsRowShape a → All IsRowShape b → sweep_text a ≡ sweep_text b → a ≡ b
+same_rows a b sa sb e =
+    let lines : sweep_lines a ≡ sweep_lines b = same_lines (sweep_lines a) (sweep_lines b) (sweep_lines_plain a) (sweep_lines_plain b) (sym (sweep_text_is a) ∙ e ∙ sweep_text_is b) in
+    let end : List (List (List ℕ)) = (codes "end" ∷ []) ∷ [] in
+    let other : mark ((codes "end" ∷ []) ∷ []) ≢ 120 = (λ same. omega (arith, same)) in
+    same_rows_by 0 a b ((codes "end" ∷ []) ∷ []) ((codes "end" ∷ []) ∷ []) (recursion_from_All IsRowShape a sa) (recursion_from_All IsRowShape b sb) other other (ap (drop 2) lines)
