@@ -1,20 +1,20 @@
 -- Where a text is accepted, there is no reason against its network.
-use Rattle.std.proofs.Common.{◌≡◌, ◌≢◌, ℕ, suc, ◌<◌, ◌≤◌, ◌^◌, Bool, true, false, cond, not, ◌||◌, eqb, List, [], ◌∷◌, length, Option, Some, None, Result, Ok, refl, sym, arith}
-use Rattle.std.specs.Prelude.{ℤ, pos, neg_ℤ, ◌≤ℤ◌, ◌*ℤ◌, nat_abs, int_lt, nat_lt, nat_le, ◌==◌, All}
+use Rattle.std.proofs.Common.{◌≡◌, ◌≢◌, ℕ, suc, ◌^◌, true, false, eqb, List, [], ◌∷◌, length, Option, Some, None, refl, arith}
+use Rattle.std.specs.Prelude.{ℤ, pos, ◌≤ℤ◌, ◌*ℤ◌, nat_abs, int_lt, All}
 use Rattle.std.specs.List.{list_any}
 use Rattle.std.proofs.lemmas.Int.{ints}
-use Rattle.std.proofs.lemmas.Bool.{le-ltb, lt-leb, ltb-false}
+use Rattle.std.proofs.lemmas.Bool.{le-ltb, lt-leb}
 use Rattle.std.proofs.lemmas.List.Elements.{All-head, All-tail}
 use Rattle.std.proofs.lemmas.Bool.Decides.{nat_tests}
 use Rattle.pf_model.specs.declared.AffineArc.{AffineArc}
 use Rattle.pf_model.specs.declared.Sense.TheVariants.{Rising}
-use Rattle.pf_model.specs.Fraction.{Fraction, IsParameter, IsBelow, is_below}
-use Rattle.pf_model.specs.Network.{Network, IsMonotone, IsMonotoneArc, capacity_at, keeps_slope}
-use Rattle.pf_text.specs.Par.{ParameterInterval, billion, network_by}
+use Rattle.pf_model.specs.Fraction.{Fraction, IsBelow, is_below}
+use Rattle.pf_model.specs.Network.{Network, IsMonotone, IsMonotoneArc, capacity_at}
+use Rattle.pf_text.specs.Par.{ParameterInterval}
 use Rattle.pf_text.specs.Laws.{IsTextFraction, IsTextArc, IsTextNetwork}
 use Rattle.pf_net.specs.declared.net.NetBad.{NetBad}
 use Rattle.pf_net.specs.declared.net.NetBad.TheVariants.{TooBig, SameEnds, EmptyInterval, BadEnd, NotMonotone, Negative, NoMemory}
-use Rattle.pf_net.specs.Refusal.{is_large, is_far, is_too_big, ends_outside, is_negative, arc_refusal, arcs_refusal, or_else, refusal_of}
+use Rattle.pf_net.specs.Refusal.{is_large, is_far, is_too_big, arc_refusal, arcs_refusal, refusal_of}
 use Rattle.pf_par.specs.Rules.{IsGoodEnd}
 
 abbrev pub network_of : ℕ → ParameterInterval → ℕ → ℕ → List AffineArc → Network

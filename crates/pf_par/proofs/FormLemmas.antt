@@ -1,11 +1,11 @@
 -- Which form a line has, by its words and the number of its fields.
-use Rattle.std.proofs.Common.{◌≡◌, ◌≢◌, ℕ, Bool, true, false, cond, not, List, [], ◌∷◌, length, get_or, Option, Some, None, refl, sym, ap, ◌∙◌, arith}
+use Rattle.std.proofs.Common.{◌≡◌, ◌≢◌, ℕ, Bool, true, false, cond, not, List, [], ◌∷◌, length, get_or, Option, None, refl, sym, ap, ◌∙◌, arith}
 use Rattle.std.specs.Prelude.{ℤ, pos, codes}
 use Rattle.std.specs.Str.{bytes_eq}
 use Rattle.std.proofs.lemmas.Slice.Eq.{bytes_eq-Decides}
 use Rattle.pf_text.specs.Numbers.{whole_of}
-use Rattle.pf_text.specs.Kinds.{FieldPattern, number, word, Form, numbers_by, match_of}
-use Rattle.pf_text.specs.Par.{Given, par, node_count, node, coefficient, denominator, interval_form, source_form, sink_form, arc_form}
+use Rattle.pf_text.specs.Kinds.{FieldPattern, number, word, numbers_by, match_of}
+use Rattle.pf_text.specs.Par.{par, node_count, node, coefficient, denominator, interval_form, source_form, sink_form, arc_form}
 use Rattle.pf_text.proofs.KindsLemmas.{with_number_none, numbers_by_count}
 
 -- a field that is compared with a word

@@ -1,17 +1,17 @@
 -- What a line of each form makes of what was given, by its numbers.
-use Rattle.std.proofs.Common.{◌≡◌, ℕ, ◌+◌, Bool, true, false, cond, eqb, not, ◌&&◌, List, [], ◌∷◌, Option, Some, None, Result, Ok, Err, refl, sym, ap, ◌∙◌}
+use Rattle.std.proofs.Common.{◌≡◌, ℕ, ◌+◌, Bool, true, false, cond, eqb, not, ◌&&◌, List, [], ◌∷◌, Option, Some, None, Result, Ok, Err, refl, ap, ◌∙◌}
 use Rattle.std.specs.Prelude.{ℤ, codes, if◌then◌else◌, ◌==◌}
 use Rattle.std.specs.Option.{option_map}
 use Rattle.pf_text.specs.declared.RuleKind.{RuleKind}
 use Rattle.pf_text.specs.declared.TextBad.{TextBad}
-use Rattle.pf_text.specs.declared.TextBad.TheVariants.{Syntax, Range, Count, Rule}
+use Rattle.pf_text.specs.declared.TextBad.TheVariants.{Range, Count, Rule}
 use Rattle.pf_text.specs.Lines.{Line}
 use Rattle.pf_text.specs.Numbers.{whole_of}
-use Rattle.pf_text.specs.Kinds.{FieldPattern, number, Form, Kind, State, Match, with_number, numbers_by, are_in_range, first_of, match_of, rule_at, and_then, refuse_if, state_of_match, step}
+use Rattle.pf_text.specs.Kinds.{Form, Kind, State, with_number, numbers_by, are_in_range, first_of, match_of, rule_at, and_then, refuse_if, state_of_match, step}
 use Rattle.pf_text.specs.Par.{Given, par, node, coefficient, denominator, interval_form, source_form, sink_form, arc_form}
 use Rattle.pf_text.proofs.KindsLemmas.{HasPlace, with_number_none}
 use Rattle.pf_lines.specs.declared.numbers.Bad.{Bad}
-use Rattle.pf_lines.specs.declared.numbers.Bad.TheVariants.{NotNumber, OutOfRange}
+use Rattle.pf_lines.specs.declared.numbers.Bad.TheVariants.{OutOfRange}
 use Rattle.pf_par.specs.Numbers.{in_ranges, ranged_numbers, number_refusal}
 
 -- what was given, and then by a line of this form with these numbers, if they are numbers of their ranges

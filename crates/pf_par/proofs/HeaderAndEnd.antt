@@ -9,7 +9,7 @@ use Rattle.pf_text.specs.declared.TextBad.{TextBad}
 use Rattle.pf_text.specs.declared.TextBad.TheVariants.{Syntax, Range, Count, WrongKind}
 use Rattle.pf_text.specs.Lines.{Line}
 use Rattle.pf_text.specs.Numbers.{whole_of}
-use Rattle.pf_text.specs.Kinds.{Kind, State, Accepted, word, numbers_by, are_in_range, is_wrong_kind, and_then, refuse_if, rule_at, state_of_header, header, end_line}
+use Rattle.pf_text.specs.Kinds.{State, word, numbers_by, are_in_range, is_wrong_kind, and_then, refuse_if, rule_at, state_of_header, header, end_line}
 use Rattle.pf_text.specs.Par.{Given, par, par_header, node_count, arc_count, network_by}
 use Rattle.pf_text.proofs.KindsLemmas.{header_wrong_kind, header_syntax, end_count}
 use Rattle.pf_lines.specs.declared.numbers.Bad.{Bad}

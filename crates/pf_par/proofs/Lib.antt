@@ -1,4 +1,5 @@
 pub mod WritingLemmas
+pub mod PrintedLemmas
 pub mod RangedNumbers
 pub mod FormSteps
 pub mod FormLemmas

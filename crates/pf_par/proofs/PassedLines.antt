@@ -1,14 +1,13 @@
 -- Lines that were taken, one after another, and the line that decided.
-use Rattle.std.proofs.Common.{◌≡◌, ℕ, ◌+◌, Bool, true, false, cond, not, ◌&&◌, List, [], ◌∷◌, ◌++◌, length, Option, Some, None, Result, Ok, Err, refl, sym, ap, subst, ◌∙◌, append_assoc}
-use Rattle.std.specs.Prelude.{ℤ, MatchOption, IfErr, ◌==◌}
-use Rattle.pf_model.specs.Network.{Network, IsMonotone}
+use Rattle.std.proofs.Common.{◌≡◌, ℕ, Bool, true, false, not, ◌&&◌, List, [], ◌∷◌, ◌++◌, Option, Some, None, Result, Ok, Err, refl, sym, ap, ◌∙◌, append_assoc}
+use Rattle.std.specs.Prelude.{ℤ, IfErr, ◌==◌}
+use Rattle.pf_model.specs.Network.{Network}
 use Rattle.pf_text.specs.declared.RuleKind.{RuleKind}
 use Rattle.pf_text.specs.declared.TextBad.{TextBad}
 use Rattle.pf_text.specs.declared.TextBad.TheVariants.{Syntax, Range, Count, WrongKind, Rule, NoEnd}
-use Rattle.pf_text.specs.Lines.{Line, lines_from}
-use Rattle.pf_text.specs.Kinds.{Kind, State, Match, Accepted, numbers_by, are_in_range, match_of, is_wrong_kind, and_then, refuse_if, rule_at, state_of_header, state_of_match, header, step, end_line, is_end, body, problem_of_lines}
+use Rattle.pf_text.specs.Lines.{Line}
+use Rattle.pf_text.specs.Kinds.{State, Match, Accepted, are_in_range, match_of, is_wrong_kind, and_then, refuse_if, rule_at, state_of_header, state_of_match, header, step, end_line, is_end, body, problem_of_lines}
 use Rattle.pf_text.specs.Par.{Given, par}
-use Rattle.pf_text.specs.Laws.{IsTextNetwork}
 use Rattle.pf_text.proofs.ParLaw.{accepted_lines_are_good}
 use Rattle.pf_lines.specs.declared.errors.ReadBad.{ReadBad}
 use Rattle.pf_lines.specs.declared.errors.ReadBad.TheVariants.{Text, NoMemory}

@@ -1,6 +1,6 @@
 -- What a line makes of what was given, by what the code tests.
-use Rattle.std.proofs.Common.{◌≡◌, ◌≢◌, ℕ, ◌+◌, Bool, true, false, cond, eqb, not, List, [], ◌∷◌, ◌++◌, length, get_or, Option, Some, None, Result, Ok, Err, refl, sym, ap, subst, ◌∙◌, arith, length-append}
-use Rattle.std.specs.Prelude.{ℤ, pos, neg_ℤ, ◌≤ℤ◌, is_some}
+use Rattle.std.proofs.Common.{◌≡◌, ◌≢◌, ℕ, ◌+◌, Bool, true, false, eqb, not, List, [], ◌∷◌, ◌++◌, length, get_or, Option, Some, None, Result, Ok, Err, refl, sym, ap, ◌∙◌, arith, length-append}
+use Rattle.std.specs.Prelude.{ℤ, pos, is_some}
 use Rattle.std.proofs.lemmas.Bool.{eq-eqb, eqb-true}
 use Rattle.pf_model.specs.declared.AffineArc.{AffineArc}
 use Rattle.pf_model.specs.Fraction.{is_below}
@@ -10,8 +10,8 @@ use Rattle.pf_text.specs.declared.TextBad.{TextBad}
 use Rattle.pf_text.specs.declared.TextBad.TheVariants.{Count, Rule}
 use Rattle.pf_text.specs.Lines.{Line}
 use Rattle.pf_text.specs.Numbers.{whole_of}
-use Rattle.pf_text.specs.Kinds.{State, FieldPattern, number, numbers_by, are_in_range, and_then, rule_at, step}
-use Rattle.pf_text.specs.Par.{ParameterInterval, Given, par, billion, node_count, arc_count, node_index, node, coefficient, denominator, broken_if, is_given, fraction, interval_form, source_form, sink_form, arc_form, interval_rules, source_rules, sink_rules, arc_rules, arc_rules_by}
+use Rattle.pf_text.specs.Kinds.{State, FieldPattern, and_then, rule_at, step}
+use Rattle.pf_text.specs.Par.{ParameterInterval, Given, par, node_count, arc_count, node_index, node, coefficient, denominator, broken_if, is_given, fraction, interval_form, source_form, sink_form, arc_form, interval_rules, source_rules, sink_rules, arc_rules, arc_rules_by}
 use Rattle.pf_lines.specs.declared.numbers.Bad.{Bad}
 use Rattle.pf_lines.specs.declared.numbers.Bad.TheVariants.{NotNumber, OutOfRange}
 use Rattle.pf_lines.specs.Values.{within_range}

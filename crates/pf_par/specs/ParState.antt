@@ -1,5 +1,5 @@
 -- What was given so far, as the definition sees it.
-use Rattle.std.specs.Prelude.{List, [], ◌∷◌, length, pos}
+use Rattle.std.specs.Prelude.{[], ◌∷◌, length, pos}
 use Rattle.pf_text.specs.Kinds.{State}
 use Rattle.pf_text.specs.Par.{Given}
 use Rattle.pf_par.specs.declared.reading_state.ParState.{ParState}

@@ -1,10 +1,9 @@
-use Rattle.std.proofs.Common.{◌≡◌, ◌∷◌, ◌∙◌, sym, refl}
+use Rattle.std.proofs.Common.{◌∙◌, sym}
 use Rattle.std.proofs.lemmas.Result.{err_from_is_err_and}
-use Rattle.pf_text.specs.Kinds.{header, step, end_line, body, problem_of_lines}
+use Rattle.pf_text.specs.Kinds.{header, step, end_line, problem_of_lines}
 use Rattle.pf_text.specs.Par.{par}
-use Rattle.pf_lines.specs.Places.{lines_left, behind}
+use Rattle.pf_lines.specs.Places.{lines_left}
 use Rattle.pf_par.specs.ParState.{state_of}
-use Rattle.pf_par.specs.Reading.{Agrees, IsBehindRefusal, HasPassed}
 use Rattle.pf_par.proofs.PassedLines.{passed_none, passed_more, header_refusal, step_refusal, end_refusal, behind_refusal, behind_if_refused, begun, stepped, ended, good_end_line}
 use Rattle.pf_par.proofs.reading.read_par.Goals as goal
 

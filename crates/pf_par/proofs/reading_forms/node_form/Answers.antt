@@ -1,4 +1,3 @@
-use Rattle.std.proofs.Common.{◌≡◌}
 use Rattle.std.specs.Prelude.{codes}
 use Rattle.std.specs.Str.{bytes_eq}
 use Rattle.pf_par.proofs.FormLemmas.{has_words_of_three, differs_from_test, same_from_test, no_form_by_first_of_three, no_form_by_third_of_three}

@@ -1,4 +1,4 @@
-use Rattle.std.proofs.Common.{◌≡◌, List, to_z, of_z, w64, Some, None, Ok, Err, refl, sym, ap, ◌∙◌, arith}
+use Rattle.std.proofs.Common.{List, to_z, of_z, w64, Some, None, Ok, Err, refl, sym, ap, ◌∙◌, arith}
 use Rattle.std.proofs.lemmas.Int.{ints}
 use Rattle.pf_model.specs.declared.AffineArc.{AffineArc}
 use Rattle.pf_text.specs.Par.{node_index}

@@ -1,4 +1,4 @@
-use Rattle.std.proofs.Common.{◌≡◌, Err, sym, ap, ◌∙◌}
+use Rattle.std.proofs.Common.{Err, sym, ap, ◌∙◌}
 use Rattle.pf_par.proofs.HeaderAndEnd.{wrong_kind, no_header, header_refused, header_state}
 use Rattle.pf_par.proofs.reading_state.ParState.begin.Goals as goal
 

@@ -1,7 +1,5 @@
-use Rattle.std.proofs.Common.{◌≡◌, List, ◌<◌, ◌≤◌, length, sym, arith}
-use Rattle.pf_model.specs.declared.AffineArc.{AffineArc}
+use Rattle.std.proofs.Common.{arith}
 use Rattle.pf_par.specs.ParState.{state_of}
-use Rattle.pf_par.specs.Rules.{IsGoodEnd}
 use Rattle.pf_par.proofs.HeaderAndEnd.{end_too_few, end_agrees, good_end}
 use Rattle.pf_par.proofs.reading_state.ParState.end.Goals as goal
 

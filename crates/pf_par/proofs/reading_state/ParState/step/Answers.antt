@@ -1,4 +1,4 @@
-use Rattle.std.proofs.Common.{◌≡◌, Err, sym, ap, ◌∙◌}
+use Rattle.std.proofs.Common.{Err, sym, ap, ◌∙◌}
 use Rattle.pf_text.specs.declared.TextBad.TheVariants.{Syntax}
 use Rattle.pf_text.specs.Par.{par}
 use Rattle.pf_text.proofs.KindsLemmas.{step_syntax}
