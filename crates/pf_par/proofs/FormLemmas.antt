@@ -5,7 +5,7 @@ use Rattle.std.specs.Str.{bytes_eq}
 use Rattle.std.proofs.lemmas.Slice.Eq.{bytes_eq-Decides}
 use Rattle.pf_text.specs.Numbers.{whole_of}
 use Rattle.pf_text.specs.Kinds.{FieldPattern, number, word, numbers_by, match_of}
-use Rattle.pf_text.specs.Par.{par, node_count, node, coefficient, denominator, interval_form, source_form, sink_form, arc_form}
+use Rattle.pf_text.specs.Par.{par, node_count, node_number, coefficient, denominator, interval_form, source_form, sink_form, arc_form}
 use Rattle.pf_text.proofs.KindsLemmas.{with_number_none, numbers_by_count}
 
 -- a field that is compared with a word
@@ -90,7 +90,7 @@ no_form_of_five fields first interval arc count is not_interval is_i not_arc is_
       interval = ap (numbers_by interval_form.patterns) parts ∙ other_word (codes "i") (get_or fields 0 []) (coefficient ∷ denominator ∷ coefficient ∷ denominator ∷ []) others i;
       source = numbers_by_count (source_form header_numbers).patterns fields (λ e. omega arith);
       sink = numbers_by_count (sink_form header_numbers).patterns fields (λ e. omega arith);
-      arc = ap (numbers_by (arc_form header_numbers).patterns) parts ∙ other_word (codes "a") (get_or fields 0 []) (node header_numbers ∷ node header_numbers ∷ coefficient ∷ coefficient ∷ []) others a;
+      arc = ap (numbers_by (arc_form header_numbers).patterns) parts ∙ other_word (codes "a") (get_or fields 0 []) (node_number header_numbers ∷ node_number header_numbers ∷ coefficient ∷ coefficient ∷ []) others a;
     })
 
 pub no_form_by_first_of_three : (fields : List (List ℕ)) (first given : List ℕ) → length fields ≡ 3 → first ≡ get_or fields 0 []
@@ -102,8 +102,8 @@ no_form_by_first_of_three fields first given count is differs same = λ header_n
     let others = get_or fields 1 [] ∷ get_or fields 2 [] ∷ [] in
     match_of_none header_numbers fields (record {
       interval = numbers_by_count interval_form.patterns fields (λ e. omega arith);
-      source = ap (numbers_by (source_form header_numbers).patterns) parts ∙ other_word (codes "n") (get_or fields 0 []) (node header_numbers ∷ word (codes "s") ∷ []) others n;
-      sink = ap (numbers_by (sink_form header_numbers).patterns) parts ∙ other_word (codes "n") (get_or fields 0 []) (node header_numbers ∷ word (codes "t") ∷ []) others n;
+      source = ap (numbers_by (source_form header_numbers).patterns) parts ∙ other_word (codes "n") (get_or fields 0 []) (node_number header_numbers ∷ word (codes "s") ∷ []) others n;
+      sink = ap (numbers_by (sink_form header_numbers).patterns) parts ∙ other_word (codes "n") (get_or fields 0 []) (node_number header_numbers ∷ word (codes "t") ∷ []) others n;
       arc = numbers_by_count (arc_form header_numbers).patterns fields (λ e. omega arith);
     })
 

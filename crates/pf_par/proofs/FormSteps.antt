@@ -8,7 +8,7 @@ use Rattle.pf_text.specs.declared.TextBad.TheVariants.{Range, Count, Rule}
 use Rattle.pf_text.specs.Lines.{Line}
 use Rattle.pf_text.specs.Numbers.{whole_of}
 use Rattle.pf_text.specs.Kinds.{Form, Kind, State, with_number, numbers_by, are_in_range, first_of, match_of, rule_at, and_then, refuse_if, state_of_match, step}
-use Rattle.pf_text.specs.Par.{Given, par, node, coefficient, denominator, interval_form, source_form, sink_form, arc_form}
+use Rattle.pf_text.specs.Par.{Given, par, node_number, coefficient, denominator, interval_form, source_form, sink_form, arc_form}
 use Rattle.pf_text.proofs.KindsLemmas.{HasPlace, with_number_none}
 use Rattle.pf_lines.specs.declared.numbers.Bad.{Bad}
 use Rattle.pf_lines.specs.declared.numbers.Bad.TheVariants.{OutOfRange}
@@ -54,23 +54,23 @@ step_interval state line lp lq hp hq e =
     by_form par state line interval_form (numbers_by (coefficient ∷ denominator ∷ coefficient ∷ denominator ∷ []) (lp ∷ lq ∷ hp ∷ hq ∷ [])) (ap (match_of (par.forms state.header_numbers)) e)
 
 pub step_source : (state : State Given) (line : Line) (v : List ℕ) → line.fields ≡ codes "n" ∷ v ∷ codes "s" ∷ []
-    → step par state line ≡ state_of_ranged par state line.number (source_form state.header_numbers) (ranged_numbers (node state.header_numbers ∷ []) (v ∷ []))
+    → step par state line ≡ state_of_ranged par state line.number (source_form state.header_numbers) (ranged_numbers (node_number state.header_numbers ∷ []) (v ∷ []))
 unfolding par
 step_source state line v e =
     by_form par state line (source_form state.header_numbers) (with_number (whole_of v) (Some [])) (ap (match_of (par.forms state.header_numbers)) e ∙ rw (with_number_none (whole_of v)) refl)
 
 pub step_sink : (state : State Given) (line : Line) (v : List ℕ) → line.fields ≡ codes "n" ∷ v ∷ codes "t" ∷ []
-    → step par state line ≡ state_of_ranged par state line.number (sink_form state.header_numbers) (ranged_numbers (node state.header_numbers ∷ []) (v ∷ []))
+    → step par state line ≡ state_of_ranged par state line.number (sink_form state.header_numbers) (ranged_numbers (node_number state.header_numbers ∷ []) (v ∷ []))
 unfolding par
 step_sink state line v e =
     by_form par state line (sink_form state.header_numbers) (with_number (whole_of v) (Some [])) (ap (match_of (par.forms state.header_numbers)) e ∙ rw (with_number_none (whole_of v)) refl)
 
 pub step_arc : (state : State Given) (line : Line) (u v a b : List ℕ) → line.fields ≡ codes "a" ∷ u ∷ v ∷ a ∷ b ∷ []
     → step par state line ≡ state_of_ranged par state line.number (arc_form state.header_numbers)
-    (ranged_numbers (node state.header_numbers ∷ node state.header_numbers ∷ coefficient ∷ coefficient ∷ []) (u ∷ v ∷ a ∷ b ∷ []))
+    (ranged_numbers (node_number state.header_numbers ∷ node_number state.header_numbers ∷ coefficient ∷ coefficient ∷ []) (u ∷ v ∷ a ∷ b ∷ []))
 unfolding par
 step_arc state line u v a b e =
-    by_form par state line (arc_form state.header_numbers) (numbers_by (node state.header_numbers ∷ node state.header_numbers ∷ coefficient ∷ coefficient ∷ []) (u ∷ v ∷ a ∷ b ∷ []))
+    by_form par state line (arc_form state.header_numbers) (numbers_by (node_number state.header_numbers ∷ node_number state.header_numbers ∷ coefficient ∷ coefficient ∷ []) (u ∷ v ∷ a ∷ b ∷ []))
     (ap (match_of (par.forms state.header_numbers)) e)
 
 -- a rule decides

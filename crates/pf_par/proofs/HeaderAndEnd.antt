@@ -4,6 +4,7 @@ use Rattle.std.specs.Prelude.{ℤ, pos, ◌≤ℤ◌, nat_abs, codes}
 use Rattle.std.proofs.lemmas.Int.{ints}
 use Rattle.std.proofs.lemmas.Bool.{le-ltb}
 use Rattle.pf_model.specs.declared.AffineArc.{AffineArc}
+use Rattle.pf_model.specs.declared.Sense.TheVariants.{Rising}
 use Rattle.pf_model.specs.Network.{Network}
 use Rattle.pf_text.specs.declared.TextBad.{TextBad}
 use Rattle.pf_text.specs.declared.TextBad.TheVariants.{Syntax, Range, Count, WrongKind}
@@ -106,7 +107,7 @@ unfolding par
 end_too_few state line n same few = end_count par state line few ∙ ap (λ m. Err (Count m)) (sym same)
 
 end_is : (state : State Given) (line : Line) (n : ℕ) → n ≡ line.number → arc_count state.header_numbers ≤ state.counted_lines
-    → end_line par state line ≡ and_then (rule_at n (network_by (node_count state.header_numbers) state.given.interval state.given.source state.given.sink state.given.arcs))
+    → end_line par state line ≡ and_then (rule_at n (network_by (node_count state.header_numbers) Rising state.given.interval state.given.source state.given.sink state.given.arcs))
     (λ net. Ok (record { problem = net; rest = line.rest; line = line.number }))
 unfolding end_line par
 end_is state line n same all = rw (le-ltb state.counted_lines (arc_count state.header_numbers) all, same) refl
@@ -118,11 +119,11 @@ agrees_through judged value next (Err (Text bad)) e = rw e refl
 agrees_through judged value next (Err NoMemory) e = tt
 
 pub end_agrees : (state : State Given) (line : Line) (n : ℕ) (result : Result Network ReadBad) → n ≡ line.number → arc_count state.header_numbers ≤ state.counted_lines
-    → Agrees (rule_at n (network_by (node_count state.header_numbers) state.given.interval state.given.source state.given.sink state.given.arcs)) (λ net. net) result
+    → Agrees (rule_at n (network_by (node_count state.header_numbers) Rising state.given.interval state.given.source state.given.sink state.given.arcs)) (λ net. net) result
     → Agrees (end_line par state line) (λ net. record { problem = net; rest = line.rest; line = line.number }) result
 end_agrees state line n result same all e =
     rw (end_is state line n same all)
-    (agrees_through (rule_at n (network_by (node_count state.header_numbers) state.given.interval state.given.source state.given.sink state.given.arcs)) (λ net. net)
+    (agrees_through (rule_at n (network_by (node_count state.header_numbers) Rising state.given.interval state.given.source state.given.sink state.given.arcs)) (λ net. net)
     (λ net. record { problem = net; rest = line.rest; line = line.number }) result e)
 
 pub good_end : (state : State Given) (line : Line) → arc_count state.header_numbers ≤ state.counted_lines → IsGoodEndLine state line

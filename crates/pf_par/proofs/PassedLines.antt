@@ -1,5 +1,5 @@
 -- Lines that were taken, one after another, and the line that decided.
-use Rattle.std.proofs.Common.{◌≡◌, ℕ, Bool, true, false, not, ◌&&◌, List, [], ◌∷◌, ◌++◌, Option, Some, None, Result, Ok, Err, refl, sym, ap, ◌∙◌, append_assoc}
+use Rattle.std.proofs.Common.{◌≡◌, ℕ, Bool, true, false, not, ◌&&◌, List, [], ◌∷◌, ◌++◌, Option, Some, None, Result, Ok, Err, refl, sym, ap, ◌∙◌, append_assoc, subst, ◌+◌}
 use Rattle.std.specs.Prelude.{ℤ, IfErr, ◌==◌}
 use Rattle.pf_model.specs.Network.{Network}
 use Rattle.pf_text.specs.declared.RuleKind.{RuleKind}
@@ -8,6 +8,7 @@ use Rattle.pf_text.specs.declared.TextBad.TheVariants.{Syntax, Range, Count, Wro
 use Rattle.pf_text.specs.Lines.{Line}
 use Rattle.pf_text.specs.Kinds.{State, Match, Accepted, are_in_range, match_of, is_wrong_kind, and_then, refuse_if, rule_at, state_of_header, state_of_match, header, step, end_line, is_end, body, problem_of_lines}
 use Rattle.pf_text.specs.Par.{Given, par}
+use Rattle.pf_text.proofs.LinesLemmas.{given_line}
 use Rattle.pf_text.proofs.ParLaw.{accepted_lines_are_good}
 use Rattle.pf_lines.specs.declared.errors.ReadBad.{ReadBad}
 use Rattle.pf_lines.specs.declared.errors.ReadBad.TheVariants.{Text, NoMemory}
@@ -18,18 +19,28 @@ use Rattle.pf_par.specs.Rules.{IsGoodEndLine}
 -- ---- places
 
 pub passed_none : (place : Place) → HasPassed place place
-passed_none place = record { passed = []; lines = refl; place = refl }
+passed_none place = record { passed = []; lines = refl; place = refl; front = []; rest = refl }
 
 behind_all-push : (place : Place) (lines : List Line) (line : Line) → behind_all place (lines ++ line ∷ []) ≡ behind line
 behind_all-push place [] line = refl
 behind_all-push place (first ∷ later) line = behind_all-push (behind first) later line
 
 pub passed_more : (before middle after : Place) (line : Line) → HasPassed before middle → lines_left middle ≡ line ∷ lines_left after → after ≡ behind line → HasPassed before after
-passed_more before middle after line has e is = record {
-  passed = has.passed ++ line ∷ [];
-  lines = has.lines ∙ ap (λ (lines : List Line). has.passed ++ lines) e ∙ sym (append_assoc has.passed (line ∷ []) (lines_left after));
-  place = is ∙ sym (behind_all-push before has.passed line);
-}
+passed_more before middle after line has e is =
+    let suffix = (given_line (middle.number + 1) middle.rest line (lines_left after) e).suffix in
+    record {
+      passed = has.passed ++ line ∷ [];
+      lines = has.lines ∙ ap (λ (lines : List Line). has.passed ++ lines) e ∙ sym (append_assoc has.passed (line ∷ []) (lines_left after));
+      place = is ∙ sym (behind_all-push before has.passed line);
+      front = has.front ++ suffix.0;
+      rest =
+          has.rest ∙ ap (λ (bytes : List ℕ). has.front ++ bytes) (suffix.1 ∙ ap (λ (place : Place). suffix.0 ++ place.rest) (sym is))
+          ∙ sym (append_assoc has.front suffix.0 after.rest);
+    }
+
+-- where the reader stays as it is
+pub passed_nothing : (before middle after : Place) → HasPassed before middle → after ≡ middle → HasPassed before after
+passed_nothing before middle after has is = subst (HasPassed before) (sym is) has
 
 -- ---- the number of the line that is refused
 

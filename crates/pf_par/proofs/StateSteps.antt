@@ -11,7 +11,7 @@ use Rattle.pf_text.specs.declared.TextBad.TheVariants.{Count, Rule}
 use Rattle.pf_text.specs.Lines.{Line}
 use Rattle.pf_text.specs.Numbers.{whole_of}
 use Rattle.pf_text.specs.Kinds.{State, FieldPattern, and_then, rule_at, step}
-use Rattle.pf_text.specs.Par.{ParameterInterval, Given, par, node_count, arc_count, node_index, node, coefficient, denominator, broken_if, is_given, fraction, interval_form, source_form, sink_form, arc_form, interval_rules, source_rules, sink_rules, arc_rules, arc_rules_by}
+use Rattle.pf_text.specs.Par.{ParameterInterval, Given, par, node_count, arc_count, node_index, node_number, coefficient, denominator, broken_if, is_given, fraction, interval_form, source_form, sink_form, arc_form, interval_rules, source_rules, sink_rules, arc_rules, arc_rules_by}
 use Rattle.pf_lines.specs.declared.numbers.Bad.{Bad}
 use Rattle.pf_lines.specs.declared.numbers.Bad.TheVariants.{NotNumber, OutOfRange}
 use Rattle.pf_lines.specs.Values.{within_range}
@@ -121,7 +121,7 @@ sink_given state line n v index answer form same e is rules =
 -- ---- an arc
 
 abbrev pub arc_patterns : List ℤ → List FieldPattern
-arc_patterns header_numbers = node header_numbers ∷ node header_numbers ∷ coefficient ∷ coefficient ∷ []
+arc_patterns header_numbers = node_number header_numbers ∷ node_number header_numbers ∷ coefficient ∷ coefficient ∷ []
 
 arc_judged : (state : State Given) (line : Line) (numbers : Result (List ℤ) Bad) → HasForm Arc line.fields
     → numbers ≡ ranged_numbers (arc_patterns state.header_numbers) (four_behind line.fields)

@@ -1,6 +1,7 @@
 -- The rules of the kind `par`, apart from what a line gives.
 use Rattle.std.specs.Prelude.{◌≡◌, ℕ, ℤ, pos, neg_ℤ, ◌≤ℤ◌, List, Option, Some, None, Result, Ok, Err}
 use Rattle.pf_model.specs.declared.AffineArc.{AffineArc}
+use Rattle.pf_model.specs.declared.Sense.TheVariants.{Rising}
 use Rattle.pf_model.specs.Network.{Network, IsMonotone}
 use Rattle.pf_text.specs.declared.RuleKind.{RuleKind}
 use Rattle.pf_text.specs.Kinds.{State, Accepted, end_line}
@@ -22,7 +23,7 @@ pub record IsEnd (p q : ℤ) : Type 0 where
 
 -- the network of what was given, where there is one, is monotone and within the limits of texts
 abbrev pub IsGoodEnd : ℕ → Option ParameterInterval → Option ℕ → Option ℕ → List AffineArc → Type 0
-IsGoodEnd nodes interval source sink arcs = (net : Network) → network_by nodes interval source sink arcs ≡ Ok net → IsMonotone net × IsTextNetwork net
+IsGoodEnd nodes interval source sink arcs = (net : Network) → network_by nodes Rising interval source sink arcs ≡ Ok net → IsMonotone net × IsTextNetwork net
 
 -- the same of the network that a line `end` gives, where it gives one
 abbrev pub IsGoodEndLine : State Given → Line → Type 0

@@ -1,5 +1,6 @@
 // The rules of the lines behind the header, and the network of what was given.
 ghost use Rattle.std.specs.Prelude.{◌≡◌, ℕ, [], ◌∷◌, ◌++◌, ◌||◌, pos, int_lt, Result, Ok, not, is_some};
+ghost use Rattle.pf_model.specs.declared.Sense.TheVariants.{Rising};
 ghost use Rattle.pf_model.specs.Fraction.{is_below};
 ghost use Rattle.pf_model.specs.Network.{capacity_at};
 ghost use Rattle.pf_text.specs.declared.RuleKind.{RuleKind};
@@ -129,7 +130,7 @@ pub fn network(
     arcs: &[AffineArc],
 ) -> Result<Net, ReadBad>
     requires { IsGoodEnd nodes interval source sink arcs.now }
-    ensures { Agrees (rule_at line (network_by nodes interval source sink arcs.now)) (λ net. net) result }
+    ensures { Agrees (rule_at line (network_by nodes Rising interval source sink arcs.now)) (λ net. net) result }
 {
     let (Some(interval), Some(s), Some(t)) = (interval, source, sink) else {
         return Err(ReadBad::Text(TextBad::Rule(line, RuleKind::Missing)));

@@ -115,18 +115,16 @@ impl ParState {
             Ok(numbers) => numbers,
             Err(bad) => return Err(ReadBad::Text(refused(number, bad))),
         };
+        let (tail, head) = (index_of(u), index_of(v));
+        let arc = AffineArc { tail, head, a, b };
         if self.arcs.len() == self.arc_count {
             return Err(ReadBad::Text(TextBad::Count(number)));
         }
-        let (tail, head) = (index_of(u), index_of(v));
-        let arc = AffineArc { tail, head, a, b };
         if let Some(rule) = against_arc(self.interval, self.source, self.sink, &arc) {
             return Err(ReadBad::Text(TextBad::Rule(number, rule)));
         }
-        match self.arcs.push(arc) {
-            Ok(()) => Ok(()),
-            Err(_) => Err(ReadBad::NoMemory),
-        }
+        self.arcs.push(arc)?;
+        Ok(())
     }
 
     /// Takes a line between the header and the line `end`.

@@ -60,7 +60,18 @@ fn work<S: Source, O: Sink>(alloc: Global, request: &Request, source: &mut S, ou
     }
 }
 
-/// Reads all that the source has left, and writes the answer that the words ask for, or a line that says why there is none.
+/// Runs the command of the words on all that the source has left. The answer goes to `out`, or a line to `err` says why
+/// there is none. The answer is made whole before its first byte goes out.
+///
+/// - `Done`: `out` took the whole text of a right answer, and it was flushed. `No`: likewise, and the answer is `no`.
+/// - `Usage`: exactly where the words are no command. The source is left as it was.
+/// - `Refused`: the text is refused, or what the command asks of its problem. This is the first reason against it.
+/// - `ReadFault`: only where the source's count of faults rose in this call.
+/// - `WriteFault`: only where the count of `out` rose in this call. `out` took a front of the text of a right answer.
+/// - `NoMemory`: memory was not found, wherever it is taken. With this status, and with `Usage`, `Refused` and
+///   `ReadFault`, `out` is left as it was.
+///
+/// A fault of `err` changes neither the status nor what `out` took.
 pub fn run<S: Source, O: Sink, E: Sink>(
     alloc: Global,
     words: &[String],

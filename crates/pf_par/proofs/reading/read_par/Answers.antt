@@ -4,7 +4,7 @@ use Rattle.pf_text.specs.Kinds.{header, step, end_line, problem_of_lines}
 use Rattle.pf_text.specs.Par.{par}
 use Rattle.pf_lines.specs.Places.{lines_left}
 use Rattle.pf_par.specs.ParState.{state_of}
-use Rattle.pf_par.proofs.PassedLines.{passed_none, passed_more, header_refusal, step_refusal, end_refusal, behind_refusal, behind_if_refused, begun, stepped, ended, good_end_line}
+use Rattle.pf_par.proofs.PassedLines.{passed_none, passed_more, passed_nothing, header_refusal, step_refusal, end_refusal, behind_refusal, behind_if_refused, begun, stepped, ended, good_end_line}
 use Rattle.pf_par.proofs.reading.read_par.Goals as goal
 
 pub returns-in_err-state-clause-passed : goal.returns-in_err-state-clause-passed
@@ -16,6 +16,9 @@ returns-in_err-state-clause-refused c =
     let given = err_from_is_err_and c.from_residual.result c.from_residual.ensures.1 in
     rw (given.1, given.2)
     (behind_refusal (header par c.in-Some.first) state_of c.in_err-state.field-0.0 c.in-Some.first c.next.new.self c.in_err-state.ensures (header_refusal c.in-Some.first) c.in-Some.ensures.place)
+
+pub returns-in_default-clause-passed : goal.returns-in_default-clause-passed
+returns-in_default-clause-passed c = passed_nothing c.args.lines.now c.args.lines.now c.next.new.self (passed_none c.args.lines.now) c.in_default.ensures.place
 
 pub lines-init : goal.lines-init
 lines-init c = record {

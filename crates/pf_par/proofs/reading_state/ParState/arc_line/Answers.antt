@@ -34,8 +34,8 @@ returns-in-Some c =
     arc_given (state_of c.args.self.now) c.args.line.now c.number-number.result x.0.0 x.0.1 x.1.0 x.1.1 arc (Some c.in-Some.rule) c.requires c.number-number.ensures c.in-Ok.ensures
     (λ e. c.if-len-self.false (omega (arith, c.len.ensures, c.args.self.now.arcs.ok.0))) refl (rw (tail, head, n.a_back, n.b_back) refl) c.in-Some.ensures
 
-pub returns-in-Ok-push : goal.returns-in-Ok-push
-returns-in-Ok-push c =
+pub returns : goal.returns
+returns c =
     let x = c.in-Ok.numbers in
     let n = numbers_of_arc c.args.self.now.nodes (four_behind c.args.line.now.fields) x.0.0 x.0.1 x.1.0 x.1.1 c.in-Ok.ensures in
     let tail = c.index_of-tail.ensures ∙ ap node_index (back x.0.0 (omega (arith, ints, n))) in
@@ -43,4 +43,4 @@ returns-in-Ok-push c =
     let arc : AffineArc = record { tail = c.index_of-tail.result; head = c.index_of-head.result; a = to_z w64 (of_z w64 x.1.0); b = to_z w64 (of_z w64 x.1.1) } in
     arc_given (state_of c.args.self.now) c.args.line.now c.number-number.result x.0.0 x.0.1 x.1.0 x.1.1 arc None c.requires c.number-number.ensures c.in-Ok.ensures
     (λ e. c.if-len-self.false (omega (arith, c.len.ensures, c.args.self.now.arcs.ok.0))) refl (rw (tail, head, n.a_back, n.b_back) refl) c.in_default.ensures
-    ∙ ap (λ (arcs : List AffineArc). Ok (with_arcs (state_of c.args.self.now) arcs)) (sym c.in-Ok-push.ensures.items)
+    ∙ ap (λ (arcs : List AffineArc). Ok (with_arcs (state_of c.args.self.now) arcs)) (sym c.in_ok-push.ensures.items)

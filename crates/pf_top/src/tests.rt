@@ -1,0 +1,178 @@
+use super::*;
+use pf_io::{MemSink, MemSource};
+use std::alloc::{AllocError, Global};
+use std::test::Fail;
+
+const TEXT: &[u8] = b"p par 3 2\ni 0 1 10 1\nn 1 s\nn 3 t\na 1 2 0 1\na 2 3 4 0\nend\n";
+
+const ANSWER: &[u8] = b"o at\nb 4 1 4\ns 0 1 100\nf 4 4\nend\n";
+
+// A second word, a text, the code, and the line of the code if it has one.
+const REFUSED: [(&str, &[u8], u8, &[u8]); 18] = [
+    ("11/1", TEXT, 3, b"ppart: outside\n"),
+    ("4", TEXT, 2, b"ppart: usage\n"),
+    ("4/1/1", TEXT, 2, b"ppart: usage\n"),
+    ("4/-1", TEXT, 2, b"ppart: usage\n"),
+    (
+        "4/1",
+        b"p par 3 1\ni 0 1 6 1\nn 1 s\nn 3 t\na 2 3 5 -1\nend\n",
+        3,
+        b"ppart: line 5: rule negative\n",
+    ),
+    (
+        "4/1",
+        b"p par 3 1\ni 0 1 6 1\nn 1 s\nn 3 t\na 1 2 9 -1\nend\n",
+        3,
+        b"ppart: line 5: rule monotone\n",
+    ),
+    (
+        "4/1",
+        b"p par 3 2\ni 0 1 1000000000 1\nn 1 s\nn 3 t\na 1 2 0 1000000001\na 2 3 1000000000 0\nend\n",
+        3,
+        b"ppart: line 5: range\n",
+    ),
+    (
+        "4/1",
+        b"p par 3 2\ni 0 1 10 1\nn 1 s\nn 3 t\na 1 2 0 1\na 2 3 4 0\n",
+        3,
+        b"ppart: no end\n",
+    ),
+    ("4/1", b"", 3, b"ppart: no end\n"),
+    (
+        "4/1",
+        b"p par 3 3\ni 0 1 10 1\nn 1 s\nn 3 t\na 1 2 0 1\na 2 3 4 0\nend\n",
+        3,
+        b"ppart: line 7: count\n",
+    ),
+    (
+        "4/1",
+        b"p par 3 1\ni 0 1 10 1\nn 1 s\nn 3 t\na 1 2 0 1\na 2 3 4 0\nend\n",
+        3,
+        b"ppart: line 6: count\n",
+    ),
+    (
+        "4/1",
+        b"p par 3 2\ni 0 1 10 1\nn 1 s\na 1 2 0 1\nn 3 t\na 2 3 4 0\nend\n",
+        3,
+        b"ppart: line 4: rule missing\n",
+    ),
+    (
+        "4/1",
+        b"p par 3 2\ni 0 1 10 1\nn 1 s\nn 1 t\na 1 2 0 1\na 2 3 4 0\nend\n",
+        3,
+        b"ppart: line 4: rule ends\n",
+    ),
+    (
+        "4/1",
+        b"p par 3 2\ni 10 1 10 1\nn 1 s\nn 3 t\na 1 2 0 1\na 2 3 4 0\nend\n",
+        3,
+        b"ppart: line 2: rule interval\n",
+    ),
+    (
+        "4/1",
+        b"p par 3 2\ni 0 1 10 1\nn 1 s\nn 3 t\ne 1 2 0 1\na 2 3 4 0\nend\n",
+        3,
+        b"ppart: line 5: syntax\n",
+    ),
+    (
+        "4/1",
+        b"p par 3 2\ni 0 1 10 1\nn 1 s\nn 1 s\nn 3 t\na 1 2 0 1\na 2 3 4 0\nend\n",
+        3,
+        b"ppart: line 4: rule repeated\n",
+    ),
+    (
+        "4/1",
+        b"p par 3 2\ni 0 1 10 1\nn 1 s\nn 3 t\na 1 2 0 1\na 2 3 4 0\nend\nx\n",
+        3,
+        b"ppart: line 8: syntax\n",
+    ),
+    (
+        "4/1",
+        b"p graph 2 1\ne 1 2 4\nend\n",
+        3,
+        b"ppart: line 1: wrong kind\n",
+    ),
+];
+
+const ANSWERED: [(&str, &[u8]); 3] = [
+    ("4/1", TEXT),
+    ("08/2", TEXT),
+    (
+        "4/1",
+        b"c made by hand\r\n\r\np par 3 2\r\ni 0 1 010 1\r\nn 1 s\r\nn 3 t\r\na 1 2 0 1\r\na 2 3 4 0\r\nend\r\n",
+    ),
+];
+
+// The word `at` and this one.
+fn at_words(alloc: Global, parameter: &str) -> Result<[String; 2], AllocError> {
+    let first = String::from_str(alloc, "at")?;
+    let second = String::from_str(alloc, parameter)?;
+    Ok([first, second])
+}
+
+#[test]
+fn refuses(rt: HostRuntime) -> Result<(), Fail> {
+    let alloc = rt.alloc();
+    for (parameter, text, code, line) in REFUSED {
+        let words = at_words(alloc, parameter)?;
+        let mut source = MemSource::new(alloc, text, 16, &[])?;
+        let mut out = MemSink::new(alloc, 64, 10, &[])?;
+        let mut err = MemSink::new(alloc, 64, 10, &[])?;
+        let status = run(alloc, &words, &mut source, &mut out, &mut err);
+        assert_eq!(rt; status.code(), code);
+        assert_eq!(rt; out.taken(), b"".as_slice());
+        assert_eq!(rt; err.taken(), line);
+    }
+    Ok(())
+}
+
+#[test]
+fn answers(rt: HostRuntime) -> Result<(), Fail> {
+    let alloc = rt.alloc();
+    for (parameter, text) in ANSWERED {
+        let words = at_words(alloc, parameter)?;
+        let mut source = MemSource::new(alloc, text, 16, &[])?;
+        let mut out = MemSink::new(alloc, 64, 10, &[])?;
+        let mut err = MemSink::new(alloc, 64, 10, &[])?;
+        let status = run(alloc, &words, &mut source, &mut out, &mut err);
+        assert_eq!(rt; status, Status::Done);
+        assert_eq!(rt; out.taken(), ANSWER);
+        assert_eq!(rt; out.flushed(), ANSWER.len());
+        assert_eq!(rt; err.taken(), b"".as_slice());
+    }
+    Ok(())
+}
+
+// Fifty-seven bytes in pieces of sixteen take five reads.
+#[test]
+fn each_read_fails_in_turn(rt: HostRuntime) -> Result<(), Fail> {
+    let alloc = rt.alloc();
+    let words = at_words(alloc, "4/1")?;
+    for failing in 1..=5 {
+        let mut source = MemSource::new(alloc, TEXT, 16, &[failing])?;
+        let mut out = MemSink::new(alloc, 64, 10, &[])?;
+        let mut err = MemSink::new(alloc, 64, 10, &[])?;
+        let status = run(alloc, &words, &mut source, &mut out, &mut err);
+        assert_eq!(rt; status, Status::ReadFault);
+        assert_eq!(rt; out.taken(), b"".as_slice());
+        assert_eq!(rt; err.taken(), b"ppart: read fault\n".as_slice());
+    }
+    Ok(())
+}
+
+// Thirty-three bytes in pieces of ten take four writes and a flush. The messages fail too.
+#[test]
+fn each_write_fails_in_turn(rt: HostRuntime) -> Result<(), Fail> {
+    let alloc = rt.alloc();
+    let words = at_words(alloc, "4/1")?;
+    for failing in 1..=5 {
+        let mut source = MemSource::new(alloc, TEXT, 16, &[])?;
+        let mut out = MemSink::new(alloc, 64, 10, &[failing])?;
+        let mut err = MemSink::new(alloc, 64, 10, &[failing])?;
+        let status = run(alloc, &words, &mut source, &mut out, &mut err);
+        assert_eq!(rt; status, Status::WriteFault);
+        let taken = (10 * (failing as usize - 1)).min(ANSWER.len());
+        assert_eq!(rt; out.taken(), &ANSWER[..taken]);
+    }
+    Ok(())
+}
