@@ -1,1 +1,5 @@
-pub mod Points
+pub mod PointLemmas
+pub mod Certifying
+pub mod Envelopes
+pub mod Filling
+pub mod Pushing

@@ -1,9 +1,16 @@
-//! The least-cut function of a monotone parametric network: the smallest least cut at one parameter, with a greatest flow.
-//! What is answered is a least cut by the definition, over all sides and all flows.
+//! The least-cut function of a monotone parametric network: at one parameter, and whole. What is answered is the definition's,
+//! over all sides, all flows and all parameters of the interval.
 #![tactic(auto)]
 
+mod curve;
+mod family;
 mod point;
 mod single;
+#[cfg(test)]
+mod tests;
+mod whole;
 
+pub use curve::{Curve, Points, Sides};
 pub use point::Point;
 pub use single::{AtBad, at};
+pub use whole::curve_of;

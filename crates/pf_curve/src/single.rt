@@ -55,7 +55,7 @@ fn find(
 }
 
 // The smallest least cut at a parameter of the interval, and a greatest flow there.
-fn point_at(alloc: Global, net: &Net, at: &Rat) -> Result<Point, NoMemory>
+pub fn point_at(alloc: Global, net: &Net, at: &Rat) -> Result<Point, NoMemory>
     requires { IsInInterval net.now at.now }
     ensures parameter { IfOk result (λ p. p.at ≡ at.now) }
     ensures point { IfOk result (λ p. IsPoint net.now p.at p.side p.flow) }

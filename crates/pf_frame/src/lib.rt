@@ -2,7 +2,7 @@
 // residual graph reaches. Each answer is exact, and only `build`, `make` and `push` take memory.
 #![tactic(auto)]
 
-ghost use Rattle.std.specs.Prelude.{◌≡◌, ◌≢◌, ℕ, ◌+◌, ◌<◌, ◌≤◌, length, get_or, IfOk};
+ghost use Rattle.std.specs.Prelude.{◌≡◌, ◌≢◌, ℕ, ◌+◌, ◌<◌, ◌≤◌, length, slice_index_or, IfOk};
 ghost use Rattle.pf_model.specs.Graph.{Graph, IsGraph, arcs_out, arcs_in};
 
 use crate::group::group;
@@ -90,7 +90,7 @@ impl Frame {
     /// The node that arc `i` leaves.
     pub fn tail(&self, i: u32) -> u32
         requires { i < length self.now.ends }
-        ensures value { result ≡ (get_or self.now.ends i (0, 0)).0 }
+        ensures value { result ≡ (slice_index_or self.now.ends i (0, 0)).0 }
         ensures node { result < self.now.nodes }
     {
         self.arcs[i as usize].0
@@ -99,7 +99,7 @@ impl Frame {
     /// The node that arc `i` enters.
     pub fn head(&self, i: u32) -> u32
         requires { i < length self.now.ends }
-        ensures value { result ≡ (get_or self.now.ends i (0, 0)).1 }
+        ensures value { result ≡ (slice_index_or self.now.ends i (0, 0)).1 }
         ensures node { result < self.now.nodes }
     {
         self.arcs[i as usize].1

@@ -53,6 +53,7 @@ impl Side {
         Ok(())
     }
 
+    /// The items, in the order in which they were added.
     pub fn get(&self) -> &[bool]
         ensures { result.now ≡ self.now }
     {
@@ -108,6 +109,7 @@ impl Numbers {
         Ok(())
     }
 
+    /// The items, in the order in which they were added.
     pub fn get(&self) -> &[i128]
         ensures { result.now ≡ self.now }
     {

@@ -1,6 +1,4 @@
 // A table of numbers, row by row.
-ghost use Rattle.std.specs.Prelude.{◌≡◌, ◌<◌, IfOk, length, pos, replicate, get_or, []};
-ghost use Rattle.std.specs.Borrow.{sem};
 
 use crate::NoMemory;
 use std::alloc::Global;
@@ -21,11 +19,11 @@ impl Model for FlowTable {
 }
 
 impl FlowTable {
-    ghost use Rattle.std.specs.Prelude.{◌≡◌, ◌<◌, IfOk, length, pos, replicate, get_or, []};
+    ghost use Rattle.std.specs.Prelude.{◌≡◌, ◌<◌, IfOk, length, pos, replicate};
     ghost use Rattle.std.specs.Borrow.{sem};
-    ghost use Rattle.pf_frame.specs.Lending.{LendsRow};
+    ghost use Rattle.pf_frame.specs.Lending.{LendsRow, row_at};
 
-    /// A table of zeros.
+    /// As many rows of zeros, each with `width` numbers.
     pub fn make(alloc: Global, rows: usize, width: usize) -> Result<FlowTable, NoMemory>
         ensures { IfOk result (λ table. table ≡ replicate rows (replicate width (pos 0))) }
     {
@@ -36,24 +34,26 @@ impl FlowTable {
         Ok(FlowTable { rows: table })
     }
 
+    /// The number of rows.
     pub fn rows(&self) -> usize
         ensures { result ≡ length self.now }
     {
         self.rows.len()
     }
 
+    /// Row `i`, in the unit in which it was written.
     pub fn row(&self, i: usize) -> &[i128]
         requires { i < length self.now }
-        ensures { result.now ≡ get_or self.now i [] }
+        ensures { result.now ≡ row_at self.now i }
     {
         self.rows[i].as_slice()
     }
 
-    /// The row, to be written. All other rows stay.
+    /// Row `i`, to be written. All other rows stay.
     pub fn row_mut(&mut self, i: usize) -> &mut [i128]
         requires { i < length self.old }
         ensures* writes_back { sem 𝓛 (LendsRow self.entry i result) }
-        ensures value { result.now ≡ get_or self.old i [] }
+        ensures value { result.now ≡ row_at self.old i }
     {
         let row = &mut self.rows[i];
         row.as_mut_slice()

@@ -33,14 +33,14 @@ front_of_digits text digits front count split e at =
 -- ---- one spelling
 
 -- numbers between numbers of 128 signed bits are short enough for std's decimal text
-pub small : (min max n : ℤ) → FitsSigned w128 min → FitsSigned w128 max → min ≤ℤ n → n ≤ℤ max → nat_abs n < 10 ^ 64
-small min max (pos n) fits_min fits_max low high = omega (arith, ints)
-small min max (negsuc n) fits_min fits_max low high = omega (arith, ints)
+pub small_between : (min max n : ℤ) → FitsSigned w128 min → FitsSigned w128 max → min ≤ℤ n → n ≤ℤ max → nat_abs n < 10 ^ 64
+small_between min max (pos n) fits_min fits_max low high = omega (arith, ints)
+small_between min max (negsuc n) fits_min fits_max low high = omega (arith, ints)
 
 -- a number between numbers of 128 signed bits has 128 signed bits
-pub fits : (min max n : ℤ) → FitsSigned w128 min → FitsSigned w128 max → min ≤ℤ n → n ≤ℤ max → FitsSigned w128 n
-fits min max (pos n) fits_min fits_max low high = record { sfits = omega (arith, ints) }
-fits min max (negsuc n) fits_min fits_max low high = record { sfits = omega (arith, ints) }
+pub fits_between : (min max n : ℤ) → FitsSigned w128 min → FitsSigned w128 max → min ≤ℤ n → n ≤ℤ max → FitsSigned w128 n
+fits_between min max (pos n) fits_min fits_max low high = record { sfits = omega (arith, ints) }
+fits_between min max (negsuc n) fits_min fits_max low high = record { sfits = omega (arith, ints) }
 
 above_zero : (n : ℕ) (digits : List ℕ) → Reads n digits → 0 < n → (d : ℕ) (others : List ℕ) → digits ≡ d ∷ others → 48 < d
 above_zero n digits reads above d others e = omega (arith, reads.first above, ap (λ (ds : List ℕ). get_or ds 0 0) e)
@@ -52,11 +52,11 @@ not_zero d above = by (eqb d 48) refl
     by true e = absurd (omega (arith, eqb-true d 48 e))
     by false e = e
 
-not_canonical-digits : (n : ℕ) (digits : List ℕ) → digits ≡ decimal n → Reads n digits → is_canonical digits ≡ true
-not_canonical-digits n [] e reads = refl
-not_canonical-digits n (a ∷ []) e reads = refl
-not_canonical-digits zero (a ∷ b ∷ digits) e reads = absurd (let one = e ∙ decimal_digit 0 (omega arith) in omega (arith, ap length one))
-not_canonical-digits (suc n) (a ∷ b ∷ digits) e reads =
+canonical_natural : (n : ℕ) (digits : List ℕ) → digits ≡ decimal n → Reads n digits → is_canonical digits ≡ true
+canonical_natural n [] e reads = refl
+canonical_natural n (a ∷ []) e reads = refl
+canonical_natural zero (a ∷ b ∷ digits) e reads = absurd (let one = e ∙ decimal_digit 0 (omega arith) in omega (arith, ap length one))
+canonical_natural (suc n) (a ∷ b ∷ digits) e reads =
     let above = above_zero (suc n) (a ∷ b ∷ digits) reads (omega arith) a (b ∷ digits) refl in
     let minus : eqb a 45 ≡ false = other (eqb a 45) refl above in
     rw (not_zero a above, minus) refl
@@ -73,7 +73,7 @@ behind_minus n (d ∷ digits) reads =
 
 -- the decimal text of a number is canonical
 pub canonical_decimal : (n : ℤ) → nat_abs n < 10 ^ 64 → is_canonical (signed_decimal n) ≡ true
-canonical_decimal (pos n) few = not_canonical-digits n (decimal n) refl (decimal_reads n few)
+canonical_decimal (pos n) few = canonical_natural n (decimal n) refl (decimal_reads n few)
 canonical_decimal (negsuc n) few = behind_minus n (decimal (suc n)) (decimal_reads (suc n) few)
 
 -- ---- a canonical text of a number is its decimal text
@@ -101,9 +101,9 @@ negative_spelling (suc n) (d ∷ digits) e canonical few =
     let inverse = natural_of-inverse (d ∷ digits) (suc n) e in
     ap (λ (ds : List ℕ). 45 ∷ ds) (sym (decimal-value d digits inverse.0 (λ is_zero. absurd (canonical_minus d digits canonical is_zero)) (omega (arith, inverse.2, few))) ∙ ap decimal inverse.2)
 
-mapped : (f : ℕ → ℤ) (value : Option ℕ) (n : ℤ) → option_map f value ≡ Some n → (m : ℕ) × (value ≡ Some m) × (f m ≡ n)
-mapped f None n e = absurd cc
-mapped f (Some m) n e = (m, refl, cc)
+some_mapped : (f : ℕ → ℤ) (value : Option ℕ) (n : ℤ) → option_map f value ≡ Some n → (m : ℕ) × (value ≡ Some m) × (f m ≡ n)
+some_mapped f None n e = absurd cc
+some_mapped f (Some m) n e = (m, refl, cc)
 
 pub canonical_spelling : (front : List ℕ) (n : ℤ) → whole_of front ≡ Some n → is_canonical front ≡ true → nat_abs n < 10 ^ 64 → front ≡ signed_decimal n
 canonical_spelling [] n e canonical few = absurd (let none = sym (whole_of-plain [] (λ z. absurd (omega arith)) ∙ ap (option_map pos) natural_of-nil) ∙ e in cc)
@@ -115,12 +115,12 @@ canonical_spelling (b ∷ bytes) n e canonical few = by (eqb b 45) refl
     by : (t : Bool) → eqb b 45 ≡ t → b ∷ bytes ≡ signed_decimal n
     by true is =
         let minus : b ≡ 45 = eqb-true b 45 is in
-        let value = mapped (λ m. neg_ℤ (pos m)) (natural_of bytes) n (sym (whole_of-minus bytes) ∙ ap (λ (a : ℕ). whole_of (a ∷ bytes)) (sym minus) ∙ e) in
+        let value = some_mapped (λ m. neg_ℤ (pos m)) (natural_of bytes) n (sym (whole_of-minus bytes) ∙ ap (λ (a : ℕ). whole_of (a ∷ bytes)) (sym minus) ∙ e) in
         let Canonical : ℕ → Type 0 = λ a. is_canonical (a ∷ bytes) ≡ true in
         let Few : ℤ → Type 0 = λ z. nat_abs z < 10 ^ 64 in
         let spelled = negative_spelling value.0 bytes value.1 (subst Canonical minus canonical) (subst Few (sym value.2) few) in
         ap (λ (a : ℕ). a ∷ bytes) minus ∙ spelled ∙ ap signed_decimal value.2
     by false other =
-        let value = mapped pos (natural_of (b ∷ bytes)) n (sym (whole_of-plain (b ∷ bytes) (plain other)) ∙ e) in
+        let value = some_mapped pos (natural_of (b ∷ bytes)) n (sym (whole_of-plain (b ∷ bytes) (plain other)) ∙ e) in
         let spelled = natural_spelling value.0 (b ∷ bytes) value.1 canonical (let Few : ℤ → Type 0 = λ z. nat_abs z < 10 ^ 64 in subst Few (sym value.2) few) in
         spelled ∙ ap signed_decimal value.2

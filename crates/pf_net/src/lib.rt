@@ -6,6 +6,8 @@
 mod checks;
 mod net;
 mod sums;
+#[cfg(test)]
+mod tests;
 
 pub use checks::{capacity, keeps_rule};
 pub use net::{Net, NetBad};

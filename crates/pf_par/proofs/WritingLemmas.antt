@@ -1,17 +1,19 @@
 -- Lines and lists, printed piece by piece.
-use Rattle.std.proofs.Common.{◌≡◌, ℕ, ◌+◌, ◌<◌, List, [], ◌∷◌, ◌++◌, length, take, drop, get_or, map, refl, sym, ap, ◌∙◌, append_assoc}
-use Rattle.std.proofs.lemmas.List.{append-nil, take_more, take-append-drop, map-append, length-map}
-use Rattle.std.specs.Prelude.{ℤ, pos, Bool}
-use Rattle.std.specs.Fmt.{signed_decimal}
+use Rattle.std.proofs.Common.{◌≡◌, ℕ, ◌+◌, ◌<◌, List, [], ◌∷◌, ◌++◌, length, take, drop, get_or, map, refl, sym, ap, ◌∙◌, append_assoc, arith}
+use Rattle.std.proofs.lemmas.List.{append-nil, take_more, take-append-drop, drop_all, map-append, length-map}
+use Rattle.std.specs.Prelude.{ℤ, pos, Bool, codes}
+use Rattle.std.specs.Fmt.{decimal, signed_decimal}
 use Rattle.std.specs.List.{join_with_byte}
+use Rattle.pf_model.specs.Fraction.{Fraction}
 use Rattle.pf_model.specs.Flow.{IsFlow}
 use Rattle.pf_model.specs.Cut.{FlowNetwork}
-use Rattle.pf_model.specs.Network.{Network, ends_of}
+use Rattle.pf_model.specs.Network.{Network, ends_of, network_at}
+use Rattle.pf_model.specs.Curve.{CertifiesCurve, point_at, flow_at}
 use Rattle.pf_model.specs.Answer.{IsFlowShape}
 use Rattle.pf_frame.specs.Numbers.{IsBounded}
 use Rattle.pf_net.specs.Limits.{graph_of}
-use Rattle.pf_text.specs.Answers.{line, side_text}
-use Rattle.pf_par.specs.Writing.{IsNonnegative, spaced, rest_of_line}
+use Rattle.pf_text.specs.Answers.{line, side_text, point_fields, segments_text, points_text}
+use Rattle.pf_par.specs.Writing.{IsNonnegative, AreNonnegative, spaced, rest_of_line}
 
 -- A text of a list that is the texts of its pieces: one item more, and the whole behind what was printed.
 pub text_more : {X : Type 0} (text : List X → List ℕ) → ((a b : List X) → text (a ++ b) ≡ text a ++ text b) → (xs : List X) (i : ℕ) (d : X) → i < length xs
@@ -85,3 +87,18 @@ bounded net flow shape amounts =
 -- the numbers of a flow are not below 0
 pub flow_is_nonnegative : (g : FlowNetwork) (flow : List ℤ) → IsFlow g flow → IsNonnegative flow
 flow_is_nonnegative g flow p = λ i lt. p.within.low i (rw (← p.within.full) lt)
+
+-- the flows of a curve that is certified
+pub flows_are_nonnegative : (net : Network) (points : List Fraction) (cuts : List (List Bool)) (flows : List (List ℤ)) → CertifiesCurve net points cuts flows → AreNonnegative flows
+flows_are_nonnegative net points cuts flows p = λ j low. flow_is_nonnegative (network_at net (point_at net points j)) (flow_at flows j) (p.flow_is j (rw (← p.count) low))
+
+-- the first point, and the segments behind it
+pub points_text_is : (net : Network) (sides : List (List Bool)) (points : List Fraction) (flows : List (List ℤ)) (other : Fraction) → 0 < length points → 0 < length flows
+    → line (codes "b" ∷ decimal 0 ∷ point_fields net (get_or points 0 other) (get_or flows 0 [])) ++ segments_text net 1 sides (drop 1 points) (drop 1 flows) ≡ points_text net sides points flows
+points_text_is net sides [] flows other some filled = absurd (omega arith)
+points_text_is net sides (at ∷ points) [] other some filled = absurd (omega arith)
+points_text_is net sides (at ∷ points) (flow ∷ flows) other some filled = refl
+
+-- behind the last cut stands nothing
+pub segments_text-end : (net : Network) (i : ℕ) (sides : List (List Bool)) (points : List Fraction) (flows : List (List ℤ)) → segments_text net i (drop (length sides) sides) points flows ≡ []
+segments_text-end net i sides points flows = rw (drop_all (length sides) sides (omega arith)) refl

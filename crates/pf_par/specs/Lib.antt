@@ -1,3 +1,6 @@
 pub mod Numbers
+pub mod Forms
+pub mod Rules
+pub mod ParState
 pub mod Reading
 pub mod Writing

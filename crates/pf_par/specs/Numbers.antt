@@ -2,6 +2,8 @@
 use Rattle.std.specs.Prelude.{ℕ, List, [], ◌∷◌, ℤ, Option, Some, None, Result, Ok, Err, if◌then◌else◌}
 use Rattle.pf_lines.specs.declared.numbers.Bad.{Bad}
 use Rattle.pf_lines.specs.declared.numbers.Bad.TheVariants.{NotNumber, OutOfRange}
+use Rattle.pf_text.specs.declared.TextBad.{TextBad}
+use Rattle.pf_text.specs.declared.TextBad.TheVariants.{Syntax, Range}
 use Rattle.pf_text.specs.Kinds.{FieldPattern, numbers_by, are_in_range}
 
 -- both values: what is no number is told before what is out of its range
@@ -25,3 +27,8 @@ ranged_numbers patterns fields = in_ranges patterns (numbers_by patterns fields)
 abbrev pub listed : Result ((ℤ × ℤ) × (ℤ × ℤ)) Bad → Result (List ℤ) Bad
 listed (Ok pairs) = Ok (pairs.0.0 ∷ pairs.0.1 ∷ pairs.1.0 ∷ pairs.1.1 ∷ [])
 listed (Err bad) = Err bad
+
+-- the refusal of a line with such a field
+abbrev pub number_refusal : ℕ → Bad → TextBad
+number_refusal n NotNumber = Syntax n
+number_refusal n OutOfRange = Range n

@@ -32,8 +32,11 @@ abbrev pub behind_all : Place → List Line → Place
 behind_all place [] = place
 behind_all place (line ∷ later) = behind_all (behind line) later
 
--- from one place to another some of the lines that were left were taken, and no others
+-- From one place to another some of the lines that were left were taken, and no others. What is left of the text is the
+-- end of what was.
 pub record HasPassed (before after : Place) : Type 0 where
   pub passed : List Line
   pub lines : lines_left before ≡ passed ++ lines_left after
   pub place : after ≡ behind_all before passed
+  pub front : List ℕ
+  pub rest : before.rest ≡ front ++ after.rest

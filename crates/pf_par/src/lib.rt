@@ -1,7 +1,8 @@
-//! Texts of the kind `par`, which give a monotone parametric network.
+//! Texts of the kind `par`, which give a monotone parametric network, and the texts of the answers to `at` and `curve`.
 //!
 //! Proved: `read_par` gives exactly the network of the definition, or exactly its first refusal,
-//! and leaves the reader of lines behind the line that decided.
+//! and leaves the reader of lines behind the line that decided. `write_at` and `write_curve` print
+//! exactly the text of the definition, fail only where the sink failed, and take no memory.
 #![tactic(auto)]
 
 mod reading;
@@ -12,7 +13,9 @@ mod reading_state;
 #[cfg(test)]
 mod reading_tests;
 mod writing;
+#[cfg(test)]
+mod writing_tests;
 
 pub use pf_lines::ReadBad;
 pub use reading::read_par;
-pub use writing::write_at;
+pub use writing::{write_at, write_curve};

@@ -6,7 +6,7 @@ ghost use Rattle.pf_lines.specs.Places.{lines_left};
 ghost use Rattle.pf_par.specs.Reading.{Agrees, IsBehindRefusal, HasPassed};
 
 use crate::reading_forms::is_end;
-use crate::reading_state::State;
+use crate::reading_state::ParState;
 use pf_lines::{Lines, ReadBad, TextBad};
 use pf_net::Net;
 use std::alloc::Global;
@@ -25,7 +25,7 @@ pub fn read_par(alloc: Global, lines: &mut Lines<'_>) -> Result<Net, ReadBad>
     let Some(first) = lines.next() else {
         return Err(ReadBad::Text(TextBad::NoEnd));
     };
-    let mut state = State::begin(alloc, &first)?;
+    let mut state = ParState::begin(alloc, &first)?;
     'lines: while let Some(line) = lines.next() {
         if is_end(&line) {
             return state.end(alloc, &line);

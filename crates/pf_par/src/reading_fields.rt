@@ -1,14 +1,15 @@
 // The fields of a line, and the numbers in them.
-ghost use Rattle.std.specs.Prelude.{◌≡◌, ◌<◌, ◌≤◌, [], ◌∷◌, length, slice_index_or, pos, ◌≤ℤ◌};
+ghost use Rattle.std.specs.Prelude.{◌≡◌, ◌<◌, ◌≤◌, [], ◌∷◌, ◌^◌, length, slice_index_or, pos, neg_ℤ, ◌≤ℤ◌};
 ghost use Rattle.pf_text.specs.Kinds.{number};
-ghost use Rattle.pf_text.specs.Par.{node_index};
+ghost use Rattle.pf_text.specs.Numbers.{whole_of};
+ghost use Rattle.pf_text.specs.Par.{billion, coefficient, denominator, node_index};
 ghost use Rattle.pf_lines.specs.Values.{within_range};
-ghost use Rattle.pf_par.specs.Numbers.{both_of, ranged_numbers, listed};
+ghost use Rattle.pf_par.specs.Numbers.{both_of, ranged_numbers, listed, number_refusal};
 
-use pf_lines::{Bad, ReadBad, TextBad, TextLine, whole};
+use pf_lines::{Bad, TextBad, TextLine, whole};
 
-/// The least and the greatest number that a field may have.
-pub type Range = (i64, i64);
+/// The greatest size of a coefficient and of both numbers of an end of the interval.
+const BILLION: i64 = 1_000_000_000;
 
 /// The field at this index, from 0.
 pub fn field<'a>(line: &TextLine<'a>, i: usize) -> &'a [u8]
@@ -33,39 +34,72 @@ pub fn both<A: Drop, B: Drop>(a: Result<A, Bad>, b: Result<B, Bad>) -> Result<(A
     }
 }
 
-/// The numbers of the four fields behind the first one.
-pub fn four(
-    line: &TextLine<'_>,
-    first: Range,
-    second: Range,
-    third: Range,
-    fourth: Range,
-) -> Result<((i64, i64), (i64, i64)), Bad>
+// A coefficient, or the numerator of an end of the interval, in the field at this index.
+fn coefficient(line: &TextLine<'_>, i: usize) -> Result<i64, Bad>
+    requires kept { i < 8 }
+    requires there { i < length line.now.fields }
+    ensures { result ≡ within_range (neg_ℤ (pos billion)) (pos billion) (whole_of (slice_index_or line.now.fields i [])) }
+{
+    whole(field(line, i), -BILLION, BILLION)
+}
+
+// The denominator of an end of the interval, in the field at this index.
+fn denominator(line: &TextLine<'_>, i: usize) -> Result<i64, Bad>
+    requires kept { i < 8 }
+    requires there { i < length line.now.fields }
+    ensures { result ≡ within_range (pos 1) (pos billion) (whole_of (slice_index_or line.now.fields i [])) }
+{
+    whole(field(line, i), 1, BILLION)
+}
+
+/// The number of a node, from 1, in the field at this index.
+pub fn node(line: &TextLine<'_>, i: usize, nodes: u32) -> Result<i64, Bad>
+    requires kept { i < 8 }
+    requires there { i < length line.now.fields }
+    ensures { result ≡ within_range (pos 1) (pos nodes) (whole_of (slice_index_or line.now.fields i [])) }
+{
+    whole(field(line, i), 1, i64::from(nodes))
+}
+
+/// The numbers of a line `i LP LQ HP HQ`.
+pub fn interval_numbers(line: &TextLine<'_>) -> Result<((i64, i64), (i64, i64)), Bad>
     requires { length line.now.fields ≡ 5 }
-    ensures { listed result ≡ ranged_numbers
-        (number first.0 first.1 ∷ number second.0 second.1 ∷ number third.0 third.1 ∷ number fourth.0 fourth.1 ∷ [])
+    ensures { listed result ≡ ranged_numbers (coefficient ∷ denominator ∷ coefficient ∷ denominator ∷ [])
         (slice_index_or line.now.fields 1 [] ∷ slice_index_or line.now.fields 2 [] ∷ slice_index_or line.now.fields 3 [] ∷ slice_index_or line.now.fields 4 [] ∷ []) }
 {
-    let a = whole(field(line, 1), first.0, first.1);
-    let b = whole(field(line, 2), second.0, second.1);
-    let c = whole(field(line, 3), third.0, third.1);
-    let d = whole(field(line, 4), fourth.0, fourth.1);
-    both(both(a, b), both(c, d))
+    both(
+        both(coefficient(line, 1), denominator(line, 2)),
+        both(coefficient(line, 3), denominator(line, 4)),
+    )
+}
+
+/// The numbers of a line `a U V A B`.
+pub fn arc_numbers(line: &TextLine<'_>, nodes: u32) -> Result<((i64, i64), (i64, i64)), Bad>
+    requires { length line.now.fields ≡ 5 }
+    ensures { listed result ≡ ranged_numbers (number (pos 1) (pos nodes) ∷ number (pos 1) (pos nodes) ∷ coefficient ∷ coefficient ∷ [])
+        (slice_index_or line.now.fields 1 [] ∷ slice_index_or line.now.fields 2 [] ∷ slice_index_or line.now.fields 3 [] ∷ slice_index_or line.now.fields 4 [] ∷ []) }
+{
+    both(
+        both(node(line, 1, nodes), node(line, 2, nodes)),
+        both(coefficient(line, 3), coefficient(line, 4)),
+    )
 }
 
 /// The index of the node of this number: texts number the nodes from 1, and networks from 0.
 pub fn index_of(node: i64) -> u32
     requires low { pos 1 ≤ℤ node }
-    requires high { node ≤ℤ pos 1000 }
+    requires high { node ≤ℤ pos (2 ^ 32) }
     ensures { result ≡ node_index node }
 {
     (node - 1) as u32
 }
 
 /// The refusal of a line with such a field.
-pub fn refused(line: u64, bad: Bad) -> ReadBad {
+pub fn refused(line: u64, bad: Bad) -> TextBad
+    ensures { result ≡ number_refusal line bad }
+{
     match bad {
-        Bad::NotNumber => ReadBad::Text(TextBad::Syntax(line)),
-        Bad::OutOfRange => ReadBad::Text(TextBad::Range(line)),
+        Bad::NotNumber => TextBad::Syntax(line),
+        Bad::OutOfRange => TextBad::Range(line),
     }
 }

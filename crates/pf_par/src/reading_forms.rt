@@ -1,4 +1,10 @@
 // Which form a line has, by its words and the number of its fields.
+ghost use Rattle.std.specs.Prelude.{◌≡◌, ◌∷◌, [], slice_index_or, length, None, codes};
+ghost use Rattle.std.specs.Bool.{MatchBool};
+ghost use Rattle.pf_text.specs.Kinds.{word, numbers_by, is_end, is_wrong_kind};
+ghost use Rattle.pf_text.specs.Par.{par_header};
+ghost use Rattle.pf_par.specs.Forms.{IsForm};
+
 use crate::reading_fields::field;
 use pf_lines::TextLine;
 
@@ -12,7 +18,10 @@ pub enum LineForm {
 }
 
 // The form of a line of three fields.
-fn node_form(line: &TextLine<'_>) -> Option<LineForm> {
+fn node_form(line: &TextLine<'_>) -> Option<LineForm>
+    requires { length line.now.fields ≡ 3 }
+    ensures { IsForm result line.now.fields }
+{
     if field(line, 0) != b"n".as_slice() {
         return None;
     }
@@ -27,7 +36,10 @@ fn node_form(line: &TextLine<'_>) -> Option<LineForm> {
 }
 
 // The form of a line of five fields.
-fn numbers_form(line: &TextLine<'_>) -> Option<LineForm> {
+fn numbers_form(line: &TextLine<'_>) -> Option<LineForm>
+    requires { length line.now.fields ≡ 5 }
+    ensures { IsForm result line.now.fields }
+{
     let first = field(line, 0);
     if first == b"i".as_slice() {
         return Some(LineForm::Interval);
@@ -39,7 +51,9 @@ fn numbers_form(line: &TextLine<'_>) -> Option<LineForm> {
 }
 
 /// The form of a line behind the header that is not `end`, if it has one.
-pub fn form_of(line: &TextLine<'_>) -> Option<LineForm> {
+pub fn form_of(line: &TextLine<'_>) -> Option<LineForm>
+    ensures { IsForm result line.now.fields }
+{
     match line.count() {
         3 => node_form(line),
         5 => numbers_form(line),
@@ -48,16 +62,24 @@ pub fn form_of(line: &TextLine<'_>) -> Option<LineForm> {
 }
 
 /// Whether the line is `end`.
-pub fn is_end(line: &TextLine<'_>) -> bool {
+pub fn is_end(line: &TextLine<'_>) -> bool
+    ensures { result ≡ is_end line.now.fields }
+{
     line.count() == 1 && field(line, 0) == b"end".as_slice()
 }
 
 /// Whether the line is the header of another kind of text.
-pub fn is_wrong_kind(line: &TextLine<'_>) -> bool {
+pub fn is_wrong_kind(line: &TextLine<'_>) -> bool
+    ensures { result ≡ is_wrong_kind (codes "par") line.now.fields }
+{
     line.count() >= 2 && field(line, 0) == b"p".as_slice() && field(line, 1) != b"par".as_slice()
 }
 
 /// Whether the line begins with `p par` and has two more fields.
-pub fn is_header(line: &TextLine<'_>) -> bool {
+pub fn is_header(line: &TextLine<'_>) -> bool
+    ensures { MatchBool result
+        (line.now.fields ≡ codes "p" ∷ codes "par" ∷ slice_index_or line.now.fields 2 [] ∷ slice_index_or line.now.fields 3 [] ∷ [])
+        (numbers_by (word (codes "p") ∷ word (codes "par") ∷ par_header) line.now.fields ≡ None) }
+{
     line.count() == 4 && field(line, 0) == b"p".as_slice() && field(line, 1) == b"par".as_slice()
 }

@@ -1,28 +1,23 @@
 // What the lines of a text have given so far.
-ghost use Rattle.std.specs.Prelude.{◌≡◌};
+ghost use Rattle.std.specs.Prelude.{◌≡◌, ◌∷◌, [], slice_index_or};
+ghost use Rattle.pf_text.specs.Kinds.{step, end_line, header};
+ghost use Rattle.pf_text.specs.Par.{par};
+ghost use Rattle.pf_par.specs.Forms.{HasForm};
+ghost use Rattle.pf_par.specs.ParState.{state_of};
+ghost use Rattle.pf_par.specs.Reading.{Agrees};
+ghost use Rattle.pf_par.specs.Rules.{IsGoodEndLine};
 
-use crate::reading_fields::{Range, both, field, four, index_of, refused};
+use crate::reading_fields::{arc_numbers, both, field, index_of, interval_numbers, node, refused};
 use crate::reading_forms::{LineForm, form_of, is_header, is_wrong_kind};
 use crate::reading_rules::{Interval, against_arc, against_interval, against_node, network};
-use pf_lines::{Bad, ReadBad, TextBad, TextLine, whole};
+use pf_lines::{ReadBad, TextBad, TextLine, whole};
 use pf_model::AffineArc;
 use pf_net::Net;
 use std::alloc::Global;
 
-/// The numbers of nodes that a text may have.
-const NODES: Range = (2, 1000);
-
-/// The numbers of arcs that a text may have.
-const ARCS: Range = (0, 10000);
-
-/// A coefficient of an arc, or the numerator of an end of the interval.
-const COEFFICIENT: Range = (-1_000_000_000, 1_000_000_000);
-
-const DENOMINATOR: Range = (1, 1_000_000_000);
-
 /// The numbers of the header, and what the lines behind it have given so far.
 #[derive(Drop)]
-pub struct State {
+pub struct ParState {
     nodes: u32,
     arc_count: usize,
     interval: Option<Interval>,
@@ -31,33 +26,11 @@ pub struct State {
     arcs: Vec<AffineArc>,
 }
 
-// The index of the node in the second field.
-fn node_of(line: &TextLine<'_>, nodes: u32) -> Result<u32, Bad> {
-    let number = whole(field(line, 1), 1, i64::from(nodes))?;
-    Ok(index_of(number))
-}
-
-// The interval of a line `i LP LQ HP HQ`.
-fn interval_of(line: &TextLine<'_>) -> Result<Interval, Bad> {
-    let ((lp, lq), (hp, hq)) = four(line, COEFFICIENT, DENOMINATOR, COEFFICIENT, DENOMINATOR)?;
-    Ok(Interval::new(lp, lq, hp, hq))
-}
-
-// The arc of a line `a U V A B`.
-fn arc_of(line: &TextLine<'_>, nodes: u32) -> Result<AffineArc, Bad> {
-    let node = (1, i64::from(nodes));
-    let ((u, v), (a, b)) = four(line, node, node, COEFFICIENT, COEFFICIENT)?;
-    Ok(AffineArc {
-        tail: index_of(u),
-        head: index_of(v),
-        a,
-        b,
-    })
-}
-
-impl State {
+impl ParState {
     /// What the first line begins, if it is a header.
-    pub fn begin(alloc: Global, line: &TextLine<'_>) -> Result<State, ReadBad> {
+    pub fn begin(alloc: Global, line: &TextLine<'_>) -> Result<ParState, ReadBad>
+        ensures { Agrees (header par line.now) state_of result }
+    {
         let number = line.number();
         if is_wrong_kind(line) {
             return Err(ReadBad::Text(TextBad::WrongKind(number)));
@@ -65,10 +38,10 @@ impl State {
         if !is_header(line) {
             return Err(ReadBad::Text(TextBad::Syntax(number)));
         }
-        let nodes = whole(field(line, 2), NODES.0, NODES.1);
-        let arcs = whole(field(line, 3), ARCS.0, ARCS.1);
+        let nodes = whole(field(line, 2), 2, 1000);
+        let arcs = whole(field(line, 3), 0, 10000);
         match both(nodes, arcs) {
-            Ok((nodes, arcs)) => Ok(State {
+            Ok((nodes, arcs)) => Ok(ParState {
                 nodes: nodes as u32,
                 arc_count: arcs as usize,
                 interval: None,
@@ -76,17 +49,21 @@ impl State {
                 sink: None,
                 arcs: Vec::new(alloc),
             }),
-            Err(bad) => Err(refused(number, bad)),
+            Err(bad) => Err(ReadBad::Text(refused(number, bad))),
         }
     }
 
     // `i LP LQ HP HQ`
-    fn interval_line(&mut self, line: &TextLine<'_>) -> Result<(), ReadBad> {
+    fn interval_line(&mut self, line: &TextLine<'_>) -> Result<(), ReadBad>
+        requires { HasForm LineForm.Interval line.now.fields }
+        ensures { Agrees (step par (state_of self.old) line.now) (λ _. state_of self.new) result }
+    {
         let number = line.number();
-        let interval = match interval_of(line) {
-            Ok(interval) => interval,
-            Err(bad) => return Err(refused(number, bad)),
+        let ((lp, lq), (hp, hq)) = match interval_numbers(line) {
+            Ok(numbers) => numbers,
+            Err(bad) => return Err(ReadBad::Text(refused(number, bad))),
         };
+        let interval = Interval::new(lp, lq, hp, hq);
         if let Some(rule) = against_interval(self.interval, &interval) {
             return Err(ReadBad::Text(TextBad::Rule(number, rule)));
         }
@@ -95,11 +72,14 @@ impl State {
     }
 
     // `n ID s`
-    fn source_line(&mut self, line: &TextLine<'_>) -> Result<(), ReadBad> {
+    fn source_line(&mut self, line: &TextLine<'_>) -> Result<(), ReadBad>
+        requires { HasForm LineForm.Source line.now.fields }
+        ensures { Agrees (step par (state_of self.old) line.now) (λ _. state_of self.new) result }
+    {
         let number = line.number();
-        let node = match node_of(line, self.nodes) {
-            Ok(node) => node,
-            Err(bad) => return Err(refused(number, bad)),
+        let node = match node(line, 1, self.nodes) {
+            Ok(node) => index_of(node),
+            Err(bad) => return Err(ReadBad::Text(refused(number, bad))),
         };
         if let Some(rule) = against_node(self.source, self.sink, node) {
             return Err(ReadBad::Text(TextBad::Rule(number, rule)));
@@ -109,11 +89,14 @@ impl State {
     }
 
     // `n ID t`
-    fn sink_line(&mut self, line: &TextLine<'_>) -> Result<(), ReadBad> {
+    fn sink_line(&mut self, line: &TextLine<'_>) -> Result<(), ReadBad>
+        requires { HasForm LineForm.Sink line.now.fields }
+        ensures { Agrees (step par (state_of self.old) line.now) (λ _. state_of self.new) result }
+    {
         let number = line.number();
-        let node = match node_of(line, self.nodes) {
-            Ok(node) => node,
-            Err(bad) => return Err(refused(number, bad)),
+        let node = match node(line, 1, self.nodes) {
+            Ok(node) => index_of(node),
+            Err(bad) => return Err(ReadBad::Text(refused(number, bad))),
         };
         if let Some(rule) = against_node(self.sink, self.source, node) {
             return Err(ReadBad::Text(TextBad::Rule(number, rule)));
@@ -123,12 +106,17 @@ impl State {
     }
 
     // `a U V A B`
-    fn arc_line(&mut self, line: &TextLine<'_>) -> Result<(), ReadBad> {
+    fn arc_line(&mut self, line: &TextLine<'_>) -> Result<(), ReadBad>
+        requires { HasForm LineForm.Arc line.now.fields }
+        ensures { Agrees (step par (state_of self.old) line.now) (λ _. state_of self.new) result }
+    {
         let number = line.number();
-        let arc = match arc_of(line, self.nodes) {
-            Ok(arc) => arc,
-            Err(bad) => return Err(refused(number, bad)),
+        let ((u, v), (a, b)) = match arc_numbers(line, self.nodes) {
+            Ok(numbers) => numbers,
+            Err(bad) => return Err(ReadBad::Text(refused(number, bad))),
         };
+        let (tail, head) = (index_of(u), index_of(v));
+        let arc = AffineArc { tail, head, a, b };
         if self.arcs.len() == self.arc_count {
             return Err(ReadBad::Text(TextBad::Count(number)));
         }
@@ -140,7 +128,9 @@ impl State {
     }
 
     /// Takes a line between the header and the line `end`.
-    pub fn step(&mut self, line: &TextLine<'_>) -> Result<(), ReadBad> {
+    pub fn step(&mut self, line: &TextLine<'_>) -> Result<(), ReadBad>
+        ensures { Agrees (step par (state_of self.old) line.now) (λ _. state_of self.new) result }
+    {
         match form_of(line) {
             None => Err(ReadBad::Text(TextBad::Syntax(line.number()))),
             Some(LineForm::Interval) => self.interval_line(line),
@@ -151,7 +141,11 @@ impl State {
     }
 
     /// The network, where this line is `end`.
-    pub fn end(&self, alloc: Global, line: &TextLine<'_>) -> Result<Net, ReadBad> {
+    pub fn end(&self, alloc: Global, line: &TextLine<'_>) -> Result<Net, ReadBad>
+        requires { IsGoodEndLine (state_of self.now) line.now }
+        ensures { Agrees (end_line par (state_of self.now) line.now)
+            (λ net. record { problem = net; rest = line.now.rest; line = line.now.number }) result }
+    {
         let number = line.number();
         if self.arcs.len() < self.arc_count {
             return Err(ReadBad::Text(TextBad::Count(number)));

@@ -179,15 +179,18 @@ header_begins kind Holds Claim n fields (Some numbers) state law is e =
     let same : record { header_numbers = numbers; counted_lines = 0; given = kind.start } ≡ state = (let e' = a.1 in cc) in
     subst Holds same (law.begins numbers (fits (word (codes "p") ∷ word kind.name ∷ kind.header_patterns) fields numbers is (not_false _ a.0)))
 
+-- what is claimed holds of the problem of all lines that are accepted
+pub lines_claims : {G P : Type 0} (kind : Kind G P) (Holds : State G → Type 0) (Claim : P → Type 0) (lines : List Line) (read : Accepted P)
+    → IsInvariant kind Holds Claim → problem_of_lines kind lines ≡ Ok read → Claim read.problem
+unfolding header
+lines_claims kind Holds Claim [] read law e = absurd cc
+lines_claims kind Holds Claim (line ∷ later) read law e =
+    let c = and_then_ok (header kind line) (λ state. body kind state later) read e in
+    let a = refuse_ok _ _ _ c.value c.ok in
+    body_claims kind Holds Claim later c.value read law (header_begins kind Holds Claim line.number line.fields _ c.value law refl a.1) c.then_ok
+
 -- what is claimed holds of the problem of every text that is accepted
 pub problem_claims : {G P : Type 0} (kind : Kind G P) (Holds : State G → Type 0) (Claim : P → Type 0) (text : List ℕ) (read : Accepted P)
     → IsInvariant kind Holds Claim → problem_of kind text ≡ Ok read → Claim read.problem
-unfolding problem_of header
-problem_claims kind Holds Claim text read law e = by (lines_from 1 text) e
-  where
-    by : (lines : List Line) → problem_of_lines kind lines ≡ Ok read → Claim read.problem
-    by [] e = absurd cc
-    by (line ∷ later) e =
-        let c = and_then_ok (header kind line) (λ state. body kind state later) read e in
-        let a = refuse_ok _ _ _ c.value c.ok in
-        body_claims kind Holds Claim later c.value read law (header_begins kind Holds Claim line.number line.fields _ c.value law refl a.1) c.then_ok
+unfolding problem_of
+problem_claims kind Holds Claim text read law e = lines_claims kind Holds Claim (lines_from 1 text) read law e

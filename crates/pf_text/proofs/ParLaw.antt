@@ -10,10 +10,11 @@ use Rattle.pf_model.specs.Fraction.{IsBelow, is_below}
 use Rattle.pf_model.specs.Network.{Network, IsMonotone, capacity_at, keeps_slope}
 use Rattle.pf_model.proofs.Lowest.{below_test, lowest_is}
 use Rattle.pf_text.specs.declared.RuleKind.{RuleKind}
-use Rattle.pf_text.specs.Kinds.{State}
+use Rattle.pf_text.specs.Lines.{Line}
+use Rattle.pf_text.specs.Kinds.{State, Accepted, problem_of_lines}
 use Rattle.pf_text.specs.Par.{ParameterInterval, Given, par, par_header, billion, node_count, arc_count, node_index, broken_if, is_given, fraction, interval_form, interval_rules, source_form, source_rules, sink_form, sink_rules, arc_form, arc_rules, arc_rules_by, network_by}
 use Rattle.pf_text.specs.Laws.{IsTextFraction, IsTextArc, IsTextNetwork, AcceptedIsMonotone, AcceptedIsTextNetwork}
-use Rattle.pf_text.proofs.KindsLaw.{Fits, Keeps, IsInvariant, problem_claims}
+use Rattle.pf_text.proofs.KindsLaw.{Fits, Keeps, IsInvariant, lines_claims, problem_claims}
 
 -- ---- what was given
 
@@ -327,6 +328,10 @@ par_invariant = record {
   kept = λ state good. (λ numbers. interval_line numbers state good, (λ numbers. source_line numbers state good, (λ numbers. sink_line numbers state good, (λ numbers. arc_line numbers state good, tt))));
   ends = λ state net good all. end_is state net good;
 }
+
+-- lines that are accepted give a monotone network within the limits of texts
+pub accepted_lines_are_good : (lines : List Line) (read : Accepted Network) → problem_of_lines par lines ≡ Ok read → IsMonotone read.problem × IsTextNetwork read.problem
+accepted_lines_are_good lines read e = lines_claims par IsGoodState IsGoodNetwork lines read par_invariant e
 
 pub accepted_is_monotone : AcceptedIsMonotone
 accepted_is_monotone text read e = (problem_claims par IsGoodState IsGoodNetwork text read par_invariant e).0

@@ -1,5 +1,5 @@
 use Rattle.pf_model.specs.Network.{IsInInterval}
-use Rattle.pf_curve.proofs.Points.{not_outside}
+use Rattle.pf_curve.proofs.PointLemmas.{not_outside}
 use Rattle.pf_curve.proofs.single.at.Goals as goal
 
 pub returns-in-Ok-clause-outside : goal.returns-in-Ok-clause-outside

@@ -1,4 +1,4 @@
-use Rattle.pf_curve.proofs.Points.{point_found, shape_found}
+use Rattle.pf_curve.proofs.PointLemmas.{point_found, shape_found}
 use Rattle.pf_curve.proofs.single.find.Goals as goal
 
 pub returns-clause-point : goal.returns-clause-point

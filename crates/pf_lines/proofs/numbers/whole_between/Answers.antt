@@ -19,5 +19,5 @@ returns-in-Some c =
     let sign = c.split_sign-negative in
     let some = some_value (natural_of sign.result.1.now) c.in-Some.size c.in-Some.ensures in
     let value = whole_by_sign c.args.field.now sign.result.1.now sign.result.0 sign.ensures ∙ ap (option_map (signed sign.result.0)) some.1 in
-    let judged = rw (to_z-of_z w128 c.args.min c.ranges.min, to_z-of_z w128 c.args.max c.ranges.max) at (c.judge_size.ensures some.0 some.2) in
+    let judged = rw (to_z-of_z w128 c.args.min c.ranges.min, to_z-of_z w128 c.args.max c.ranges.max) at (c.number_of_size.ensures some.0 some.2) in
     judged ∙ sym (ap (within_range c.args.min c.args.max) value)

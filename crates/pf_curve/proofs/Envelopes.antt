@@ -1,0 +1,214 @@
+-- The lower envelope of the lines of all cuts, each part with a cut that has its line and is the smallest least cut somewhere, is the curve.
+use Rattle.std.proofs.Common.{◌≡◌, ℕ, zero, suc, ◌+◌, ◌<◌, ◌≤◌, List, [], ◌∷◌, length, get_or, map, Bool, add-one, refl, arith, ap, sym, ◌∙◌, subst}
+use Rattle.std.specs.Prelude.{ℤ, All}
+use Rattle.std.proofs.lemmas.Int.{ints}
+use Rattle.std.proofs.lemmas.List.{length-map, get_or-map, get_or_default}
+use Rattle.pf_model.specs.Fraction.{Fraction, IsParameter, IsBelow}
+use Rattle.pf_model.specs.Line.{AffineLine, value_at}
+use Rattle.pf_model.specs.Cut.{IsLeast}
+use Rattle.pf_model.specs.Network.{Network, IsMonotone, IsInInterval, IsNetworkCut, network_at, line_of}
+use Rattle.pf_model.specs.Answer.{IsFractionShape, IsCurveShape}
+use Rattle.pf_model.specs.Curve.{IsCurve, point_at, cut_at}
+use Rattle.pf_model.specs.CurveLaws.{HasLeastParts}
+use Rattle.pf_model.proofs.Affine.{capacity_of_line}
+use Rattle.pf_model.proofs.Certificate.{point_inside, at_most_reflexive}
+use Rattle.pf_model.proofs.Parts.{curve_from_parts}
+use Rattle.pf_envelope.specs.Envelope.{Piece, IsLowerEnvelope, IsLeastAt, left_end, piece_at, no_piece}
+use Rattle.pf_curve.specs.Cuts.{IsCutFound, IsLineOfCut, IsServed}
+use Rattle.pf_curve.specs.Flows.{AreGreatest}
+
+-- the cut at i was found at some parameter, with this line
+pub record IsFoundAt (net : Network) (line : AffineLine) (side : List Bool) : Type 0 where
+  pub at : Fraction
+  pub found : IsCutFound net at line side
+
+-- points and cuts that belong to the pieces of an envelope
+pub record Fits (net : Network) (pieces : List Piece) (points : List Fraction) (cuts : List (List Bool)) : Type 0 where
+  pub count : length cuts ≡ length pieces
+  pub point_count : length points ≡ length pieces + 1
+  pub first : point_at net points 0 ≡ net.low
+  pub right : (i : ℕ) → i < length pieces → point_at net points (i + 1) ≡ (piece_at pieces i).right
+  pub found : (i : ℕ) → i < length pieces → IsFoundAt net (piece_at pieces i).line (cut_at cuts i)
+
+left_is : (net : Network) (pieces : List Piece) (points : List Fraction) (cuts : List (List Bool)) → Fits net pieces points cuts →
+    (i : ℕ) → i ≤ length pieces → point_at net points i ≡ left_end net.low pieces i
+left_is net pieces points cuts f zero low = f.first
+left_is net pieces points cuts f (suc i) low = sym (ap (λ n. point_at net points n) (add-one i)) ∙ f.right i (omega arith)
+
+none_is_high : (net : Network) (pieces : List Piece) → IsMonotone net → left_end net.low pieces (length pieces) ≡ net.high → length pieces ≡ 0 → ⊥
+none_is_high net [] m e h =
+    let interval = m.interval in
+    let P : Fraction → Type 0 = λ x. IsBelow net.low x in
+    let same = subst P (sym e) interval in
+    omega (arith, ints, same)
+none_is_high net (piece ∷ pieces) m e h = absurd (omega arith)
+
+some_pieces : (net : Network) (pieces : List Piece) → IsMonotone net → left_end net.low pieces (length pieces) ≡ net.high → 0 < length pieces
+some_pieces net [] m e = absurd (none_is_high net [] m e refl)
+some_pieces net (piece ∷ pieces) m e = omega arith
+
+-- the line of a least cut is least
+pub least_line : (net : Network) (x : Fraction) (line : AffineLine) (side : List Bool) → IsLeast (network_at net x) side → line ≡ line_of net side →
+    IsLeastAt (IsLineOfCut net) line x
+least_line net x line side l e other o =
+    let cut = o.cut in
+    let most = l.least o.side (record { full = cut.full; with_source = cut.with_source; without_sink = cut.without_sink }) in
+    let mine = ap (λ (l : AffineLine). value_at l x) e in
+    let theirs = ap (λ (l : AffineLine). value_at l x) o.line_is in
+    let here = capacity_of_line net x side in
+    let there = capacity_of_line net x o.side in
+    omega (arith, ints, most, mine, theirs, here, there)
+
+-- a cut whose line is least at a parameter is least there
+least_cut : (net : Network) (x : Fraction) (line : AffineLine) (side : List Bool) → IsNetworkCut net side → line ≡ line_of net side →
+    IsLeastAt (IsLineOfCut net) line x → IsLeast (network_at net x) side
+least_cut net x line side c e h = record {
+  cut = record { full = c.full; with_source = c.with_source; without_sink = c.without_sink };
+  least = λ other o.
+      let cut : IsNetworkCut net other = record { full = o.full; with_source = o.with_source; without_sink = o.without_sink } in
+      let most = h (line_of net other) (record { side = other; cut = cut; line_is = refl }) in
+      let mine = ap (λ (l : AffineLine). value_at l x) e in
+      let here = capacity_of_line net x side in
+      let there = capacity_of_line net x other in
+      omega (arith, ints, most, mine, here, there);
+}
+
+cut_found : (net : Network) (x : Fraction) (line : AffineLine) (side : List Bool) → IsCutFound net x line side → IsNetworkCut net side
+cut_found net x line side f =
+    let cut = f.smallest.least.cut in
+    record { full = cut.full; with_source = cut.with_source; without_sink = cut.without_sink }
+
+parameter_of : (net : Network) (pieces : List Piece) (points : List Fraction) (cuts : List (List Bool)) → IsMonotone net →
+    IsLowerEnvelope (IsLineOfCut net) net.low net.high pieces → Fits net pieces points cuts →
+    (i : ℕ) → i < length points → IsParameter (point_at net points i)
+parameter_of net pieces points cuts m env f zero low = rw f.first m.low
+parameter_of net pieces points cuts m env f (suc i) low =
+    let here : i < length pieces = omega (arith, low, f.point_count) in
+    let e = sym (ap (λ n. point_at net points n) (add-one i)) ∙ f.right i here in
+    let P : Fraction → Type 0 = λ x. IsParameter x in
+    subst P (sym e) (env.parameters i here)
+
+pub least_parts : (net : Network) (pieces : List Piece) (points : List Fraction) (cuts : List (List Bool)) → IsMonotone net →
+    IsLowerEnvelope (IsLineOfCut net) net.low net.high pieces → Fits net pieces points cuts → HasLeastParts net points cuts
+least_parts net pieces points cuts m env f =
+    let left = left_is net pieces points cuts f in
+    let count = f.count in
+    record {
+      division = record {
+        some = let h = some_pieces net pieces m env.covers in omega (arith, h, count);
+        count = f.point_count ∙ ap (λ n. n + 1) (sym count);
+        parameters = parameter_of net pieces points cuts m env f;
+        low = rw f.first refl;
+        high = let e = ap (λ n. point_at net points n) count ∙ left (length pieces) (omega arith) ∙ env.covers in rw e refl;
+        rise = λ i low.
+            let here : i < length pieces = omega (arith, low, count) in
+            rw (left i (omega arith), f.right i here) (env.rise i here);
+      };
+      least = λ i low x px h k.
+          let here : i < length pieces = omega (arith, low, count) in
+          let found = f.found i here in
+          let h' = rw (left i (omega arith)) at h in
+          let k' = rw (f.right i here) at k in
+          least_cut net x (piece_at pieces i).line (cut_at cuts i) (cut_found net found.at (piece_at pieces i).line (cut_at cuts i) found.found) found.found.line_is
+          (env.least i here x px h' k');
+      somewhere = λ i low.
+          let here : i < length pieces = omega (arith, low, count) in
+          let found = f.found i here in
+          record { at = found.at; inside = found.found.inside; smallest = found.found.smallest };
+      slopes = λ i low.
+          let here : i + 1 < length pieces = omega (arith, low, count) in
+          let falls = env.slopes_fall i here in
+          let first = ap (λ (l : AffineLine). l.b) (f.found i (omega arith)).found.line_is in
+          let second = ap (λ (l : AffineLine). l.b) (f.found (i + 1) here).found.line_is in
+          omega (arith, ints, falls, first, second);
+    }
+
+pub envelope_is_curve : (net : Network) (pieces : List Piece) (points : List Fraction) (cuts : List (List Bool)) → IsMonotone net →
+    IsLowerEnvelope (IsLineOfCut net) net.low net.high pieces → Fits net pieces points cuts → IsCurve net points cuts
+envelope_is_curve net pieces points cuts m env f = curve_from_parts net points cuts m (least_parts net pieces points cuts m env f)
+
+right_at : {A : Type 0} (net : Network) (right : A → Fraction) (line : A → AffineLine) (parts : List A) (i : ℕ) → i < length parts →
+    point_at net (net.low ∷ map right parts) (i + 1) ≡ (piece_at (map (λ p. record { right = right p; line = line p }) parts) i).right
+right_at net right line [] i low = absurd (omega arith)
+right_at {A} net right line (p ∷ parts) i low =
+    let piece : A → Piece = λ q. record { right = right q; line = line q } in
+    let first = get_or-map right (p ∷ parts) i p net.low low in
+    let second = get_or-map piece (p ∷ parts) i p no_piece low in
+    rw add-one (first ∙ sym (ap (λ (x : Piece). x.right) second))
+
+found_at : {A : Type 0} (net : Network) (right at : A → Fraction) (line : A → AffineLine) (side : A → List Bool) (parts : List A) →
+    All (λ p. IsCutFound net (at p) (line p) (side p)) parts → (i : ℕ) → i < length parts →
+    IsFoundAt net (piece_at (map (λ p. record { right = right p; line = line p }) parts) i).line (cut_at (map side parts) i)
+found_at net right at line side [] each i low = absurd (omega arith)
+found_at {A} net right at line side (p ∷ parts) each i low =
+    let piece : A → Piece = λ q. record { right = right q; line = line q } in
+    let here = get_or (p ∷ parts) i p in
+    let first = ap (λ (x : Piece). x.line) (get_or-map piece (p ∷ parts) i p no_piece low) in
+    let second = get_or-map side (p ∷ parts) i p [] low in
+    record { at = at here; found = rw (first, second) (each i p low) }
+
+-- the pieces, points and cuts of one list of parts
+pub fit : {A : Type 0} (net : Network) (right at : A → Fraction) (line : A → AffineLine) (side : A → List Bool) (parts : List A) →
+    All (λ p. IsCutFound net (at p) (line p) (side p)) parts →
+    Fits net (map (λ p. record { right = right p; line = line p }) parts) (net.low ∷ map right parts) (map side parts)
+fit {A} net right at line side parts each =
+    let piece : A → Piece = λ p. record { right = right p; line = line p } in
+    let pieces = length-map parts piece in
+    record {
+      count = length-map parts side ∙ sym pieces;
+      point_count = ap suc (length-map parts right ∙ sym pieces) ∙ sym (add-one (length (map piece parts)));
+      first = refl;
+      right = λ i low. right_at net right line parts i (omega (arith, low, pieces));
+      found = λ i low. found_at net right at line side parts each i (omega (arith, low, pieces));
+    }
+
+-- the same, as the code calls it
+pub curve_of_parts : {A : Type 0} (net : Network) (right at : A → Fraction) (line : A → AffineLine) (side : A → List Bool) (parts first second : List A) (lo hi lo' : Fraction)
+    (points : List Fraction) (cuts : List (List Bool)) → IsMonotone net → lo ≡ net.low → hi ≡ net.high → lo' ≡ net.low → first ≡ parts → second ≡ parts →
+    All (λ p. IsCutFound net (at p) (line p) (side p)) parts →
+    IsLowerEnvelope (IsLineOfCut net) lo hi (map (λ p. record { right = right p; line = line p }) parts) →
+    points ≡ lo' ∷ map right first → cuts ≡ map side second → IsCurve net points cuts
+curve_of_parts {A} net right at line side parts first second lo hi lo' points cuts m is_lo is_hi is_lo' is_first is_second each env is_points is_cuts =
+    let piece : A → Piece = λ p. record { right = right p; line = line p } in
+    let here : IsLowerEnvelope (IsLineOfCut net) net.low net.high (map piece parts) = rw (is_lo, is_hi) at env in
+    let e : points ≡ net.low ∷ map right parts = is_points ∙ rw (is_lo', is_first) refl in
+    let f : cuts ≡ map side parts = is_cuts ∙ ap (map side) is_second in
+    rw (e, f) (envelope_is_curve net (map piece parts) (net.low ∷ map right parts) (map side parts) m here (fit net right at line side parts each))
+
+pub all_inside : (net : Network) (points : List Fraction) (cuts : List (List Bool)) → IsMonotone net → IsCurve net points cuts → All (IsInInterval net) points
+all_inside net points cuts m c = λ i d low.
+    let here = point_inside net points cuts m c.division i (omega (arith, low, c.division.count)) in
+    let P : Fraction → Type 0 = λ x. IsInInterval net x in
+    subst P (get_or_default points i net.low d low) here
+
+pub all_cuts : (net : Network) (points : List Fraction) (cuts : List (List Bool)) → IsCurve net points cuts → All (IsNetworkCut net) cuts
+all_cuts net points cuts c = λ i d low.
+    let cut = (c.smallest i low).least.cut in
+    let here : IsNetworkCut net (cut_at cuts i) = record { full = cut.full; with_source = cut.with_source; without_sink = cut.without_sink } in
+    let P : List Bool → Type 0 = λ x. IsNetworkCut net x in
+    subst P (get_or_default cuts i [] d low) here
+
+pub shape_of_curve : (net : Network) (points : List Fraction) (cuts : List (List Bool)) (flows : List (List ℤ)) → IsCurve net points cuts → All IsFractionShape points →
+    AreGreatest net points flows → IsCurveShape net (record { points = points; cuts = cuts; flows = flows })
+shape_of_curve net points cuts flows c shape best = record {
+  some = c.division.some;
+  count = c.division.count;
+  flow_count = best.count;
+  points = shape;
+  cuts = all_cuts net points cuts c;
+  flows = best.shape;
+}
+
+pub end_served : (net : Network) (x : Fraction) → IsMonotone net → x ≡ net.low → IsServed net x
+end_served net x m e = record {
+  inside = record { parameter = rw e m.low; low = rw e (at_most_reflexive net.low); high = let interval = m.interval in rw e (omega (arith, ints, interval)) };
+  low = m.low;
+  high = m.high;
+}
+
+pub high_end_served : (net : Network) (x : Fraction) → IsMonotone net → x ≡ net.high → IsServed net x
+high_end_served net x m e = record {
+  inside = record { parameter = rw e m.high; low = let interval = m.interval in rw e (omega (arith, ints, interval)); high = rw e (at_most_reflexive net.high) };
+  low = m.low;
+  high = m.high;
+}

@@ -1,0 +1,149 @@
+// The whole least-cut function.
+ghost use Rattle.std.specs.Prelude.{◌≡◌, ◌+◌, ◌++◌, ◌<◌, ◌≤◌, [], ◌∷◌, length, IfOk, OnErr};
+ghost use Rattle.pf_model.specs.Curve.{cut_at, flow_at};
+
+use pf_frame::{FlowTable, NoMemory, Side};
+use pf_rat::Rat;
+use std::alloc::Global;
+use std::marker::Model;
+
+/// A list of parameters. Contracts see the list.
+#[derive(Drop)]
+pub struct Points {
+    items: Vec<Rat>,
+}
+
+impl Model for Points {
+    ghost use Rattle.std.specs.Prelude.{List};
+    ghost use Rattle.pf_model.specs.Fraction.{Fraction};
+
+    ghost Value = { List Fraction };
+
+    ghost view = { λ list. list.items.items };
+}
+
+impl Points {
+    /// The empty list. It takes no memory.
+    pub fn new(alloc: Global) -> Points
+        ensures { result ≡ [] }
+    {
+        Points {
+            items: Vec::new(alloc),
+        }
+    }
+
+    /// Adds the item at the end. `NoMemory` leaves the list as it was.
+    pub fn push(&mut self, item: Rat) -> Result<(), NoMemory>
+        ensures added { IfOk result (λ _. self.new ≡ self.old ++ item ∷ []) }
+        ensures unchanged { OnErr result (self.new ≡ self.old) }
+    {
+        self.items.push(item)?;
+        Ok(())
+    }
+
+    pub fn get(&self) -> &[Rat]
+        ensures { result.now ≡ self.now }
+    {
+        self.items.as_slice()
+    }
+}
+
+/// A list of sides. Contracts see the list.
+#[derive(Drop)]
+pub struct Sides {
+    items: Vec<Side>,
+}
+
+impl Model for Sides {
+    ghost use Rattle.std.specs.Prelude.{List, Bool};
+
+    ghost Value = { List (List Bool) };
+
+    ghost view = { λ list. list.items.items };
+}
+
+impl Sides {
+    /// The empty list. It takes no memory.
+    pub fn new(alloc: Global) -> Sides
+        ensures { result ≡ [] }
+    {
+        Sides {
+            items: Vec::new(alloc),
+        }
+    }
+
+    /// Adds the item at the end. `NoMemory` leaves the list as it was, and drops the item.
+    pub fn push(&mut self, item: Side) -> Result<(), NoMemory>
+        ensures added { IfOk result (λ _. self.new ≡ self.old ++ item ∷ []) }
+        ensures unchanged { OnErr result (self.new ≡ self.old) }
+    {
+        self.items.push(item)?;
+        Ok(())
+    }
+
+    pub fn get(&self) -> &[Side]
+        ensures { result.now ≡ self.now }
+    {
+        self.items.as_slice()
+    }
+}
+
+/// Points, a cut between each and the next, and a flow at each point in units of `1/q` of that point `p/q`. Cuts are
+/// indexed by node, flows by arc.
+#[derive(Drop)]
+pub struct Curve {
+    points: Points,
+    cuts: Sides,
+    flows: FlowTable,
+}
+
+impl Model for Curve {
+    ghost use Rattle.std.specs.Prelude.{◌≡◌, ◌+◌, length};
+    ghost use Rattle.pf_model.specs.Answer.{Curve};
+
+    ghost Value = { Curve };
+
+    ghost view = { λ c. record { points = c.points; cuts = c.cuts; flows = c.flows } };
+
+    ghost invariant = { λ c. (length c.points ≡ length c.cuts + 1) × (length c.flows ≡ length c.points) };
+}
+
+impl Curve {
+    /// The curve of `K` cuts and `K + 1` points and flows.
+    pub fn new(points: Points, cuts: Sides, flows: FlowTable) -> Curve
+        requires points { length points ≡ length cuts + 1 }
+        requires flows { length flows ≡ length points }
+        ensures { result ≡ record { points = points; cuts = cuts; flows = flows } }
+    {
+        Curve {
+            points,
+            cuts,
+            flows,
+        }
+    }
+
+    /// The points, from 0.
+    pub fn points(&self) -> &[Rat]
+        ensures points { result.now ≡ self.now.points }
+        ensures count { length self.now.points ≡ length self.now.cuts + 1 }
+        ensures flow_count { length self.now.flows ≡ length self.now.points }
+    {
+        self.points.get()
+    }
+
+    /// The cut between point `i` and the next, from 0.
+    pub fn cut(&self, i: usize) -> &[bool]
+        requires { i < length self.now.cuts }
+        ensures { result.now ≡ cut_at self.now.cuts i }
+    {
+        self.cuts.get()[i].get()
+    }
+
+    /// The flow at point `i`, from 0.
+    pub fn flow(&self, i: usize) -> &[i128]
+        requires { i ≤ length self.now.cuts }
+        ensures { result.now ≡ flow_at self.now.flows i }
+    {
+        self.flows.row(i)
+    }
+}

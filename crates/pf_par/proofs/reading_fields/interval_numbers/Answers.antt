@@ -1,0 +1,11 @@
+use Rattle.std.specs.Prelude.{pos, neg_ℤ, slice_index_or, []}
+use Rattle.pf_text.specs.Par.{billion}
+use Rattle.pf_par.proofs.RangedNumbers.{four_numbers}
+use Rattle.pf_par.proofs.reading_fields.interval_numbers.Goals as goal
+
+pub returns : goal.returns
+returns c =
+    let fields = c.args.line.now.fields in
+    rw (c.both-3.ensures, c.both.ensures, c.both-2.ensures, c.coefficient.ensures, c.denominator.ensures, c.coefficient-2.ensures, c.denominator-2.ensures)
+    (four_numbers (neg_ℤ (pos billion)) (pos billion) (pos 1) (pos billion) (neg_ℤ (pos billion)) (pos billion) (pos 1) (pos billion)
+    (slice_index_or fields 1 []) (slice_index_or fields 2 []) (slice_index_or fields 3 []) (slice_index_or fields 4 []))
