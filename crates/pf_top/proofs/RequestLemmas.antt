@@ -10,9 +10,9 @@ use Rattle.pf_text.specs.Numbers.{natural_of, whole_of}
 use Rattle.pf_text.specs.Par.{billion}
 use Rattle.pf_text.specs.Asked.{natural_within, integer_within, fraction_of_numbers, at, two_words, command_of}
 use Rattle.pf_text.proofs.NumbersLemmas.{whole_of-minus, whole_of-plain, natural_of-others}
-use Rattle.pf_text.proofs.WordsLemmas.{fraction_of_parts, command_of_no_word, command_of_one, command_of_two, command_of_many}
+use Rattle.pf_text.proofs.WordsLemmas.{command_of_no_word, command_of_one, command_of_two, command_of_many}
 use Rattle.pf_top.specs.declared.words.Request.{Request}
-use Rattle.pf_top.specs.Words.{word_bytes, fraction_of_request, command_of_request}
+use Rattle.pf_top.specs.Words.{word_bytes, fraction_of_parts, fraction_of_request, command_of_request}
 use Rattle.std.specs.String.{string_bytes}
 use Rattle.std.specs.declared.string.String.{String}
 use Rattle.std.specs.declared.alloc.Global.{Global}

@@ -3,8 +3,7 @@ ghost use Rattle.std.specs.Prelude.{◌≡◌, IfSome, ◌==◌};
 ghost use Rattle.std.specs.List.{position};
 ghost use Rattle.std.specs.Option.{option_map};
 ghost use Rattle.pf_text.specs.Asked.{parameter_of, two_words, command_of};
-ghost use Rattle.pf_text.proofs.WordsLemmas.{fraction_of_parts};
-ghost use Rattle.pf_top.specs.Words.{word_bytes, fraction_of_request, command_of_request, IsBoundedRequest};
+ghost use Rattle.pf_top.specs.Words.{word_bytes, fraction_of_request, command_of_request, IsBoundedRequest, fraction_of_parts};
 
 use pf_lines::whole;
 
