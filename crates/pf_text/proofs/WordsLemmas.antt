@@ -5,7 +5,7 @@ use Rattle.std.specs.List.{position, position_or_len}
 use Rattle.pf_model.specs.Fraction.{Fraction}
 use Rattle.pf_text.specs.Numbers.{natural_of, whole_of}
 use Rattle.pf_text.specs.Par.{billion}
-use Rattle.pf_text.specs.Asked.{split_at_slash, natural_within, integer_within, fraction_of_numbers, parameter_of, two_words, command_of}
+use Rattle.pf_text.specs.Asked.{split_at_slash, natural_within, integer_within, fraction_of_numbers, parameter_of, one_word, two_words, command_of}
 use Rattle.pf_text.proofs.LinesLemmas.{at_position, no_position}
 
 -- ---- the number of words
@@ -14,7 +14,7 @@ pub command_of_no_word : command_of [] ≡ None
 unfolding command_of
 command_of_no_word = refl
 
-pub command_of_one : (first : List ℕ) → command_of (first ∷ []) ≡ None
+pub command_of_one : (first : List ℕ) → command_of (first ∷ []) ≡ one_word first
 unfolding command_of
 command_of_one first = refl
 

@@ -6,7 +6,7 @@ use Rattle.pf_model.specs.Network.{Network, network_at}
 use Rattle.pf_model.specs.Curve.{IsPoint, IsCurve, CertifiesCurve}
 use Rattle.pf_model.specs.Answer.{Point, Curve, Row, IsPointShape, IsCurveShape, IsRowShape}
 use Rattle.pf_text.specs.Answers.{point_text, curve_text, sweep_text, verdict_text}
-use Rattle.pf_text.specs.Asked.{Command, at, Problem, network}
+use Rattle.pf_text.specs.Asked.{Command, at, curve, Problem, network}
 
 -- `at`: the smallest least cut at the parameter, in lowest terms, and a flow whose value is its capacity
 pub record IsRightPoint (x : Fraction) (net : Network) (text : List ℕ) : Type 0 where
@@ -69,7 +69,9 @@ IsRightCheck net rest text = IsRightVerdict (IsCertifiedCurve net rest) text
 -- The text is that of a right answer to the command for this problem, with this text behind it.
 abbrev pub IsRight : Command → Problem → List ℕ → List ℕ → Type 0
 IsRight (at x) (network net) rest text = IsRightPoint x net text
+IsRight curve (network net) rest text = IsRightCurve net text
 
 -- the command asks for a verdict, and the text is that of `no`
 abbrev pub SaysNo : Command → List ℕ → Type 0
 SaysNo (at x) text = ⊥
+SaysNo curve text = ⊥

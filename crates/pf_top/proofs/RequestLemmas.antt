@@ -8,11 +8,13 @@ use Rattle.std.proofs.lemmas.Bool.Decides.{nat_tests}
 use Rattle.pf_model.specs.Fraction.{IsBoundedFraction}
 use Rattle.pf_text.specs.Numbers.{natural_of, whole_of}
 use Rattle.pf_text.specs.Par.{billion}
-use Rattle.pf_text.specs.Asked.{natural_within, integer_within, fraction_of_numbers, at, two_words, command_of}
+use Rattle.pf_text.specs.Asked.{natural_within, integer_within, fraction_of_numbers, at, one_word, two_words, command_of}
 use Rattle.pf_text.proofs.NumbersLemmas.{whole_of-minus, whole_of-plain, natural_of-others}
 use Rattle.pf_text.proofs.WordsLemmas.{command_of_no_word, command_of_one, command_of_two, command_of_many}
+use Rattle.pf_top.specs.declared.words.Parameter.{Parameter}
 use Rattle.pf_top.specs.declared.words.Request.{Request}
-use Rattle.pf_top.specs.Words.{word_bytes, fraction_of_parts, fraction_of_request, command_of_request}
+use Rattle.pf_top.specs.declared.words.Request.TheVariants.{At}
+use Rattle.pf_top.specs.Words.{word_bytes, fraction_of_parts, fraction_of_parameter, command_of_request}
 use Rattle.std.specs.String.{string_bytes}
 use Rattle.std.specs.declared.string.String.{String}
 use Rattle.std.specs.declared.alloc.Global.{Global}
@@ -146,10 +148,15 @@ command_of_pair (a ∷ b ∷ []) first second some few zeroth next =
     rw (one, two) (command_of_two (string_bytes a) (string_bytes b))
 command_of_pair (a ∷ b ∷ c ∷ words) first second some few zeroth next = absurd (omega (arith, few))
 
-pub command_of_few : (words : List (String Global)) → length words < 2 → command_of (word_bytes words) ≡ None
-command_of_few [] few = command_of_no_word
-command_of_few (a ∷ []) few = command_of_one (string_bytes a)
-command_of_few (a ∷ b ∷ words) few = absurd (omega (arith, few))
+pub command_of_single : (words : List (String Global)) (first : String Global) → 1 ≤ length words → length words < 2 → first ≡ get_or words 0 first
+    → command_of (word_bytes words) ≡ one_word (string_bytes first)
+command_of_single [] first some few zeroth = absurd (omega (arith, some))
+command_of_single (a ∷ []) first some few zeroth = let one : first ≡ a = zeroth in rw one (command_of_one (string_bytes a))
+command_of_single (a ∷ b ∷ words) first some few zeroth = absurd (omega (arith, few))
+
+pub command_of_none : (words : List (String Global)) → length words < 1 → command_of (word_bytes words) ≡ None
+command_of_none [] few = command_of_no_word
+command_of_none (a ∷ words) few = absurd (omega (arith, few))
 
 pub command_of_more : (words : List (String Global)) → 3 ≤ length words → command_of (word_bytes words) ≡ None
 command_of_more [] more = absurd (omega (arith, more))
@@ -159,6 +166,10 @@ command_of_more (a ∷ b ∷ c ∷ words) more = command_of_many (string_bytes a
 
 -- ---- the command of a request
 
-pub command_of_parameter : (parameter : Option Request) → option_map at (option_map fraction_of_request parameter) ≡ option_map command_of_request parameter
+abbrev pub as_request : Option Parameter → Option Request
+as_request None = None
+as_request (Some parameter) = Some (At parameter)
+
+pub command_of_parameter : (parameter : Option Parameter) → option_map at (option_map fraction_of_parameter parameter) ≡ option_map command_of_request (as_request parameter)
 command_of_parameter None = refl
-command_of_parameter (Some request) = refl
+command_of_parameter (Some parameter) = refl

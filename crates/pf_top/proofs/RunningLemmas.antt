@@ -7,16 +7,12 @@ use Rattle.pf_io.specs.declared.device.Sink.{Ghosts as Sink}
 use Rattle.pf_io.specs.declared.device.Source.{Ghosts as Source}
 use Rattle.pf_io.specs.Faults.{Rose, HasCause}
 use Rattle.pf_io.specs.Told.{Gave, GaveCount, Took, IsFrontOf, NoneLeft, after_told, told_length}
-use Rattle.pf_model.specs.Fraction.{Fraction}
-use Rattle.pf_model.specs.Network.{Network}
-use Rattle.pf_model.specs.Answer.{Point}
 use Rattle.pf_text.specs.declared.Refusal.{Refusal}
 use Rattle.pf_text.specs.declared.Refusal.TheVariants as refusals
-use Rattle.pf_text.specs.Answers.{point_text}
-use Rattle.pf_text.specs.Asked.{Command, at, Asked, usage, refused, accepted, asked, command_of}
+use Rattle.pf_text.specs.Asked.{Command, at, curve, Asked, usage, refused, accepted, asked, command_of}
 use Rattle.pf_text.proofs.AskedLemmas.{asked_usage, asked_something, asked_long}
 use Rattle.pf_top.specs.Answering.{IsRefused, IsMade}
-use Rattle.pf_top.specs.Words.{fraction_of_request, command_of_request}
+use Rattle.pf_top.specs.Words.{command_of_request}
 use Rattle.pf_top.specs.declared.words.Request.{Request}
 use Rattle.pf_top.specs.Messages.{TookLine, ErrAfter, status_line}
 use Rattle.pf_top.specs.Running.{IsAnswerTo, IsNoTo, TookWhole, TookFront, Says, WasRead, SourceAfter, IsDue, IsRun}
@@ -85,9 +81,13 @@ is_due S so sn O oo on ask NoMemory says fault read wrote memory = absurd (memor
 
 -- ---- what is left of the source
 
+read_after : {T : Type 0} (S : Source T) (so sn : T) (command : Command) (status : Status) → WasRead S so sn status → SourceAfter S so sn (Some command) status
+read_after S so sn (at x) status was = was
+read_after S so sn curve status was = was
+
 source_after : {T : Type 0} (S : Source T) (so sn : T) (request : Request) (words : List (List ℕ)) (status : Status) → command_of words ≡ Some (command_of_request request)
     → WasRead S so sn status → SourceAfter S so sn (command_of words) status
-source_after S so sn request words status some was = rw some was
+source_after S so sn request words status some was = rw some (read_after S so sn (command_of_request request) status was)
 
 read_refused : {T : Type 0} (S : Source T) (so sn : T) (refusal : Refusal) → refusal ≢ refusals.TooLong → NoneLeft (S.left sn) → WasRead S so sn (Refused refusal)
 read_refused S so sn (refusals.Text bad) other ended = ended
@@ -173,22 +173,19 @@ run_refused S so sn O o request words bytes refusal some gave ended later r =
       complete = λ read wrote memory. rw asks refl;
     }
 
--- the text of the point is a right answer
-right_point : (x : Fraction) (words : List (List ℕ)) (bytes : List ℕ) (net : Network) (point : Point) → command_of words ≡ Some (at x) → IsMade x bytes net point
-    → IsAnswerTo (asked words bytes) (point_text net point)
-right_point x words bytes net point some m =
-    rw (m.asks words some) (record { point = point; shape = m.point_is.shape; parameter = m.point_is.parameter; best = m.point_is.best; text_is = refl })
+-- the text that was made is that of a right answer
+right_text : (command : Command) (words : List (List ℕ)) (bytes text : List ℕ) → command_of words ≡ Some command → IsMade command bytes text → IsAnswerTo (asked words bytes) text
+right_text command words bytes text some m = rw (m.asks words some) m.right
 
-never_no : (x : Fraction) (words : List (List ℕ)) (bytes : List ℕ) (net : Network) (point : Point) → command_of words ≡ Some (at x) → IsMade x bytes net point
-    → ¬ IsNoTo (asked words bytes) (point_text net point)
-never_no x words bytes net point some m = rw (m.asks words some) (λ f. f)
+never_no : (command : Command) (words : List (List ℕ)) (bytes text : List ℕ) → command_of words ≡ Some command → IsMade command bytes text → ¬ IsNoTo (asked words bytes) text
+never_no command words bytes text some m = rw (m.asks words some) m.yes
 
-pub run_done : {T U : Type 0} (S : Source T) (so sn : T) (O : Sink U) (oo on : U) (request : Request) (words : List (List ℕ)) (bytes : List ℕ) (net : Network) (point : Point)
+pub run_done : {T U : Type 0} (S : Source T) (so sn : T) (O : Sink U) (oo on : U) (request : Request) (words : List (List ℕ)) (bytes text : List ℕ)
     → command_of words ≡ Some (command_of_request request) → Gave (S.left so) (S.left sn) bytes → NoneLeft (S.left sn) → S.faults so ≤ S.faults sn → O.faults oo ≤ O.faults on
-    → IsMade (fraction_of_request request) bytes net point → TookWhole O oo on (point_text net point) → IsRun S so sn O oo on words Done
-run_done S so sn O oo on request words bytes net point some gave ended later later' m took =
-    let x : Fraction = fraction_of_request request in
-    let says : Says O oo on (asked words bytes) Done = (point_text net point, right_point x words bytes net point some m, never_no x words bytes net point some m, took) in
+    → IsMade (command_of_request request) bytes text → TookWhole O oo on text → IsRun S so sn O oo on words Done
+run_done S so sn O oo on request words bytes text some gave ended later later' m took =
+    let command = command_of_request request in
+    let says : Says O oo on (asked words bytes) Done = (text, right_text command words bytes text some m, never_no command words bytes text some m, took) in
     record {
       bytes = bytes;
       told = told_whole (S.left so) (S.left sn) bytes gave ended;
@@ -199,15 +196,14 @@ run_done S so sn O oo on request words bytes net point some gave ended later lat
       complete = λ read wrote memory. is_due S so sn O oo on (asked words bytes) Done says (λ e. absurd cc) read wrote memory;
     }
 
-pub run_write_fault : {T U : Type 0} (S : Source T) (so sn : T) (O : Sink U) (oo on : U) (request : Request) (words : List (List ℕ)) (bytes : List ℕ) (net : Network) (point : Point)
+pub run_write_fault : {T U : Type 0} (S : Source T) (so sn : T) (O : Sink U) (oo on : U) (request : Request) (words : List (List ℕ)) (bytes text : List ℕ)
     → command_of words ≡ Some (command_of_request request) → Gave (S.left so) (S.left sn) bytes → NoneLeft (S.left sn) → S.faults so ≤ S.faults sn → O.faults oo ≤ O.faults on
-    → IsMade (fraction_of_request request) bytes net point → Rose (O.faults oo) (O.faults on) → TookFront O oo on (point_text net point) → IsRun S so sn O oo on words WriteFault
-run_write_fault S so sn O oo on request words bytes net point some gave ended later later' m rose took =
-    let x : Fraction = fraction_of_request request in
+    → IsMade (command_of_request request) bytes text → Rose (O.faults oo) (O.faults on) → TookFront O oo on text → IsRun S so sn O oo on words WriteFault
+run_write_fault S so sn O oo on request words bytes text some gave ended later later' m rose took =
     record {
       bytes = bytes;
       told = told_whole (S.left so) (S.left sn) bytes gave ended;
-      says = (point_text net point, right_point x words bytes net point some m, rose, took);
+      says = (text, right_text (command_of_request request) words bytes text some m, rose, took);
       source = source_after S so sn request words WriteFault some ended;
       source_count = later;
       out_count = later';
@@ -222,3 +218,4 @@ usage_by_words S so sn O oo on words status run = by (command_of words) refl run
     by : (command : Option Command) → command_of words ≡ command → SourceAfter S so sn command status → (status ≡ Usage) ↔ (command ≡ None)
     by None e after = (λ same. refl, λ same. after.0)
     by (Some (at x)) e after = (λ same. absurd (rw same at after), λ same. absurd cc)
+    by (Some curve) e after = (λ same. absurd (rw same at after), λ same. absurd cc)

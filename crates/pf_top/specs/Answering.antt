@@ -2,14 +2,19 @@
 use Rattle.std.specs.Prelude.{◌≡◌, ◌≢◌, ℕ, ◌+◌, List, [], Some, Ok}
 use Rattle.pf_model.specs.Fraction.{Fraction, lowest}
 use Rattle.pf_model.specs.Network.{Network}
-use Rattle.pf_model.specs.Answer.{Point, IsPointShape}
-use Rattle.pf_model.specs.Curve.{IsPoint}
+use Rattle.pf_model.specs.Answer.{Point, Curve, IsPointShape, IsCurveShape}
+use Rattle.pf_model.specs.Curve.{IsPoint, IsCurve, CertifiesCurve}
 use Rattle.pf_text.specs.declared.Refusal.{Refusal}
 use Rattle.pf_text.specs.declared.Refusal.TheVariants.{TooLong}
 use Rattle.pf_text.specs.Lines.{lines_from}
 use Rattle.pf_text.specs.Kinds.{Accepted, problem_of}
 use Rattle.pf_text.specs.Par.{par}
-use Rattle.pf_text.specs.Asked.{Command, at, network, Asked, refused, accepted, asked, command_of}
+use Rattle.pf_text.specs.Answers.{point_text, curve_text}
+use Rattle.pf_text.specs.Right.{IsRight, SaysNo}
+use Rattle.pf_par.specs.Writing.{IsNonnegative, AreNonnegative}
+use Rattle.pf_top.specs.declared.answering.Answer.{Answer}
+use Rattle.pf_top.specs.declared.answering.Answer.TheVariants.{AtPoint, WholeCurve}
+use Rattle.pf_text.specs.Asked.{Command, Problem, network, Asked, refused, accepted, asked, command_of}
 
 -- all words that ask for the command ask this of the bytes
 abbrev pub Asks : Command → List ℕ → Asked → Type 0
@@ -33,8 +38,26 @@ pub record IsPointAt (x : Fraction) (net : Network) (point : Point) : Type 0 whe
   pub parameter : point.at ≡ lowest x
   pub best : IsPoint net point.at point.side point.flow
 
--- the bytes ask for the point of the network
-pub record IsMade (x : Fraction) (bytes : List ℕ) (net : Network) (point : Point) : Type 0 where
+-- the whole least-cut function, with flows that certify it
+pub record IsCurveOf (net : Network) (curve : Curve) : Type 0 where
+  pub shape : IsCurveShape net curve
+  pub best : IsCurve net curve.points curve.cuts
+  pub certificate : CertifiesCurve net curve.points curve.cuts curve.flows
+
+-- the text of an answer
+abbrev pub text_of_answer : Answer → List ℕ
+text_of_answer (AtPoint net point) = point_text net point
+text_of_answer (WholeCurve net curve) = curve_text net curve
+
+-- the answer has a shape that can be printed
+abbrev pub IsPrintable : Answer → Type 0
+IsPrintable (AtPoint net point) = IsPointShape net point × IsNonnegative point.flow
+IsPrintable (WholeCurve net curve) = IsCurveShape net curve × AreNonnegative curve.flows
+
+-- the bytes ask for this text: it is that of a right answer, which is not `no`
+pub record IsMade (command : Command) (bytes text : List ℕ) : Type 0 where
+  pub problem : Problem
   pub rest : List ℕ
-  pub asks : Asks (at x) bytes (accepted (at x) (network net) rest)
-  pub point_is : IsPointAt x net point
+  pub asks : Asks command bytes (accepted command problem rest)
+  pub right : IsRight command problem rest text
+  pub yes : ¬ SaysNo command text

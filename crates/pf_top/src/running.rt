@@ -1,40 +1,48 @@
 // From the words and the bytes of a source to the bytes of a sink and a status.
-ghost use Rattle.std.specs.Prelude.{◌≡◌, ℕ, List, ◌↔◌, ◌≤◌, Some, None, OnOk};
-ghost use Rattle.pf_model.specs.Answer.{IsPointShape};
+ghost use Rattle.std.specs.Prelude.{◌≡◌, ℕ, List, ◌↔◌, ◌≤◌, Some, None, OnOk, false};
 ghost use Rattle.pf_io.specs.Faults.{HasCause};
 ghost use Rattle.pf_io.specs.Told.{IsFrontOf, after_told};
-ghost use Rattle.pf_text.specs.Answers.{point_text};
 ghost use Rattle.pf_text.specs.Asked.{command_of};
-ghost use Rattle.pf_par.specs.Writing.{IsNonnegative};
+ghost use Rattle.pf_io.specs.Printing.{Adds, is_spent};
+ghost use Rattle.pf_top.specs.Answering.{IsPrintable, text_of_answer};
 ghost use Rattle.pf_top.specs.Words.{word_bytes, command_of_request, IsBoundedRequest};
 ghost use Rattle.pf_top.specs.Messages.{ErrAfter};
 ghost use Rattle.pf_top.specs.Running.{TookWhole, IsRun};
 
-use crate::answering::{Stop, answer_at};
+use crate::answering::{Answer, Stop, answer_request};
 use crate::messages::tell;
 use crate::status::Status;
 use crate::words::{Request, read_words};
-use pf_curve::Point;
 use pf_io::{Failed, Printer, ReadEnd, Sink, Source, read_all};
-use pf_net::Net;
-use pf_par::write_at;
+use pf_par::{write_at, write_curve};
 use pf_text::Refusal;
 use std::alloc::Global;
 
 /// The most bytes of an input.
 const LIMIT: usize = 1 << 29;
 
+// Prints the answer.
+fn print<O: Sink>(printer: &mut Printer<'_, O>, answer: &Answer) -> Result<(), Failed>
+    requires usable { is_spent printer.old ≡ false }
+    requires printable { IsPrintable answer.now }
+    ensures { Adds printer.old printer.new (text_of_answer answer.now) result }
+{
+    match answer {
+        Answer::AtPoint(net, point) => write_at(printer, net, point),
+        Answer::WholeCurve(net, curve) => write_curve(printer, net, curve),
+    }
+}
+
 // Hands the text of the answer to the sink.
-fn hand_out<O: Sink>(out: &mut O, net: &Net, point: &Point) -> Result<(), Failed>
-    requires shape { IsPointShape net.now point.now }
-    requires amounts { IsNonnegative point.now.flow }
-    ensures whole { OnOk result (TookWhole O.Sink out.old out.new (point_text net.now point.now)) }
+fn hand_out<O: Sink>(out: &mut O, answer: &Answer) -> Result<(), Failed>
+    requires { IsPrintable answer.now }
+    ensures whole { OnOk result (TookWhole O.Sink out.old out.new (text_of_answer answer.now)) }
     ensures grows { IsFrontOf (O.taken out.old) (O.taken out.new) }
-    ensures front { IsFrontOf (O.taken out.new) (after_told (O.taken out.old) (point_text net.now point.now)) }
+    ensures front { IsFrontOf (O.taken out.new) (after_told (O.taken out.old) (text_of_answer answer.now)) }
     ensures cause { HasCause (O.faults out.old) (O.faults out.new) result }
 {
     let mut printer = Printer::new(out);
-    write_at(&mut printer, net, point)?;
+    print(&mut printer, answer)?;
     printer.finish()
 }
 
@@ -50,8 +58,8 @@ fn work<S: Source, O: Sink>(alloc: Global, request: &Request, source: &mut S, ou
         Err(ReadEnd::TooLong) => return Status::Refused(Refusal::TooLong),
         Err(ReadEnd::NoMemory) => return Status::NoMemory,
     };
-    match answer_at(alloc, request, &bytes) {
-        Ok((net, point)) => match hand_out(out, &net, &point) {
+    match answer_request(alloc, request, &bytes) {
+        Ok(answer) => match hand_out(out, &answer) {
             Ok(()) => Status::Done,
             Err(_) => Status::WriteFault,
         },

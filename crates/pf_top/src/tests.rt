@@ -103,6 +103,34 @@ const ANSWERED: [(&str, &[u8]); 3] = [
     ),
 ];
 
+// A text, and the answer to `curve`.
+const CURVES: [(&[u8], &[u8]); 6] = [
+    (
+        b"p par 2 0\ni 0 1 1 1\nn 1 s\nn 2 t\nend\n",
+        b"o curve\nk 1\nb 0 0 1 0\ns 1 0 0 10\nb 1 1 1 0\nf 0\nf 1\nend\n",
+    ),
+    (
+        TEXT,
+        b"o curve\nk 2\nb 0 0 1 0\ns 1 0 1 100\nb 1 4 1 4\ns 2 4 0 110\nb 2 10 1 4\nf 0 0 0\nf 1 4 4\nf 2 4 4\nend\n",
+    ),
+    (
+        b"p par 3 2\ni 0 1 10 1\nn 1 s\nn 3 t\na 1 2 0 3\na 2 3 4 0\nend\n",
+        b"o curve\nk 2\nb 0 0 1 0\ns 1 0 3 100\nb 1 4 3 12\ns 2 4 0 110\nb 2 10 1 4\nf 0 0 0\nf 1 12 12\nf 2 4 4\nend\n",
+    ),
+    (
+        b"p par 3 2\ni 0 1 5 1\nn 1 s\nn 3 t\na 1 2 0 1\na 2 3 0 0\nend\n",
+        b"o curve\nk 1\nb 0 0 1 0\ns 1 0 0 110\nb 1 5 1 0\nf 0 0 0\nf 1 0 0\nend\n",
+    ),
+    (
+        b"p par 4 4\ni 0 1 5 1\nn 1 s\nn 4 t\na 1 2 0 1\na 1 3 0 1\na 2 4 3 0\na 3 4 3 0\nend\n",
+        b"o curve\nk 2\nb 0 0 1 0\ns 1 0 2 1000\nb 1 3 1 6\ns 2 6 0 1110\nb 2 5 1 6\nf 0 0 0 0 0\nf 1 3 3 3 3\nf 2 3 3 3 3\nend\n",
+    ),
+    (
+        b"p par 3 2\ni 0 1 6 1\nn 1 s\nn 3 t\na 1 2 2 0\na 2 3 6 -1\nend\n",
+        b"o curve\nk 2\nb 0 0 1 2\ns 1 2 0 100\nb 1 4 1 2\ns 2 6 -1 110\nb 2 6 1 0\nf 0 2 2\nf 1 2 2\nf 2 0 0\nend\n",
+    ),
+];
+
 // The word `at` and this one.
 fn at_words(alloc: Global, parameter: &str) -> Result<[String; 2], AllocError> {
     let first = String::from_str(alloc, "at")?;
@@ -139,6 +167,21 @@ fn answers(rt: HostRuntime) -> Result<(), Fail> {
         assert_eq!(rt; out.taken(), ANSWER);
         assert_eq!(rt; out.flushed(), ANSWER.len());
         assert_eq!(rt; err.taken(), b"".as_slice());
+    }
+    Ok(())
+}
+
+#[test]
+fn answers_for_the_whole_interval(rt: HostRuntime) -> Result<(), Fail> {
+    let alloc = rt.alloc();
+    let words = [String::from_str(alloc, "curve")?];
+    for (text, answer) in CURVES {
+        let mut source = MemSource::new(alloc, text, 16, &[])?;
+        let mut out = MemSink::new(alloc, 256, 10, &[])?;
+        let mut err = MemSink::new(alloc, 64, 10, &[])?;
+        let status = run(alloc, &words, &mut source, &mut out, &mut err);
+        assert_eq!(rt; status, Status::Done);
+        assert_eq!(rt; out.taken(), answer);
     }
     Ok(())
 }

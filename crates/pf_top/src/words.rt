@@ -2,24 +2,33 @@
 ghost use Rattle.std.specs.Prelude.{◌≡◌, IfSome, ◌==◌};
 ghost use Rattle.std.specs.List.{position};
 ghost use Rattle.std.specs.Option.{option_map};
-ghost use Rattle.pf_text.specs.Asked.{parameter_of, two_words, command_of};
-ghost use Rattle.pf_top.specs.Words.{word_bytes, fraction_of_request, command_of_request, IsBoundedRequest, fraction_of_parts};
+ghost use Rattle.pf_text.specs.Asked.{parameter_of, one_word, two_words, command_of};
+ghost use Rattle.pf_top.specs.Words.{word_bytes, fraction_of_parameter, command_of_request, IsBoundedParameter, IsBoundedRequest, fraction_of_parts};
 
 use pf_lines::whole;
 
-/// What words ask for: the answer at the parameter `p/q`.
+/// The parameter `p/q`, as words spell it.
 #[derive(Drop)]
-pub struct Request {
+pub struct Parameter {
     pub p: i64,
     pub q: i64,
+}
+
+/// What words ask for.
+#[derive(Drop)]
+pub enum Request {
+    /// The answer at one parameter.
+    At(Parameter),
+    /// The whole least-cut function.
+    Curve,
 }
 
 const BILLION: i64 = 1_000_000_000;
 
 // The two numbers, if both are in their ranges.
-fn fraction(front: &[u8], back: &[u8]) -> Option<Request>
-    ensures bounds { IfSome result IsBoundedRequest }
-    ensures value { fraction_of_parts front.now back.now ≡ option_map fraction_of_request result }
+fn fraction(front: &[u8], back: &[u8]) -> Option<Parameter>
+    ensures bounds { IfSome result IsBoundedParameter }
+    ensures value { fraction_of_parts front.now back.now ≡ option_map fraction_of_parameter result }
 {
     let Ok(p) = whole(front, -BILLION, BILLION) else {
         return None;
@@ -27,7 +36,7 @@ fn fraction(front: &[u8], back: &[u8]) -> Option<Request>
     let Ok(q) = whole(back, 1, BILLION) else {
         return None;
     };
-    Some(Request { p, q })
+    Some(Parameter { p, q })
 }
 
 // Where the first slash stands.
@@ -38,9 +47,9 @@ fn first_slash(bytes: &[u8]) -> Option<usize>
 }
 
 // The two numbers of `P/Q`, if both are in their ranges.
-fn parameter(bytes: &[u8]) -> Option<Request>
-    ensures bounds { IfSome result IsBoundedRequest }
-    ensures value { parameter_of bytes.now ≡ option_map fraction_of_request result }
+fn read_parameter(bytes: &[u8]) -> Option<Parameter>
+    ensures bounds { IfSome result IsBoundedParameter }
+    ensures value { parameter_of bytes.now ≡ option_map fraction_of_parameter result }
 {
     match first_slash(bytes) {
         Some(slash) => {
@@ -52,6 +61,17 @@ fn parameter(bytes: &[u8]) -> Option<Request>
     }
 }
 
+// What one word asks for, if it has the form of a command.
+fn one_word(first: &[u8]) -> Option<Request>
+    ensures bounds { IfSome result IsBoundedRequest }
+    ensures value { one_word first.now ≡ option_map command_of_request result }
+{
+    if first != b"curve".as_slice() {
+        return None;
+    }
+    Some(Request::Curve)
+}
+
 // What two words ask for, if they have the form of a command.
 fn two_words(first: &[u8], second: &[u8]) -> Option<Request>
     ensures bounds { IfSome result IsBoundedRequest }
@@ -60,7 +80,10 @@ fn two_words(first: &[u8], second: &[u8]) -> Option<Request>
     if first != b"at".as_slice() {
         return None;
     }
-    parameter(second)
+    match read_parameter(second) {
+        Some(parameter) => Some(Request::At(parameter)),
+        None => None,
+    }
 }
 
 /// What the words ask for, if they have the form of a command.
@@ -69,6 +92,7 @@ pub fn read_words(words: &[String]) -> Option<Request>
     ensures value { command_of (word_bytes words.now) ≡ option_map command_of_request result }
 {
     match words {
+        [first] => one_word(first.as_bytes()),
         [first, second] => two_words(first.as_bytes(), second.as_bytes()),
         _ => None,
     }

@@ -5,6 +5,6 @@ use Rattle.pf_top.proofs.running.hand_out.Goals as goal
 
 pub returns-clause-grows : goal.returns-clause-grows
 returns-clause-grows g c =
-    let start : IsFrontOf (g.O.Sink.taken c.args.out.now) (g.O.Sink.taken c.write_at.new.out.sink.now) = rw c.new-printer.ensures.same at c.in_ok-write_at.ensures.grows in
-    let all : IsFrontOf (g.O.Sink.taken c.args.out.now) (g.O.Sink.taken c.finish.new.self.0) = front_trans (g.O.Sink.taken c.args.out.now) (g.O.Sink.taken c.write_at.new.out.sink.now) (g.O.Sink.taken c.finish.new.self.0) start c.finish.ensures.grows in
+    let start : IsFrontOf (g.O.Sink.taken c.args.out.now) (g.O.Sink.taken c.print.new.printer.sink.now) = rw c.new-printer.ensures.same at c.in_ok-print.ensures.grows in
+    let all : IsFrontOf (g.O.Sink.taken c.args.out.now) (g.O.Sink.taken c.finish.new.self.0) = front_trans (g.O.Sink.taken c.args.out.now) (g.O.Sink.taken c.print.new.printer.sink.now) (g.O.Sink.taken c.finish.new.self.0) start c.finish.ensures.grows in
     (all.0, search rules)

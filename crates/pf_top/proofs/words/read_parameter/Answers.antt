@@ -1,6 +1,6 @@
 use Rattle.std.proofs.Common.{sym, ◌∙◌}
 use Rattle.pf_text.proofs.WordsLemmas.{parameter_of_parts, parameter_of_no_slash}
-use Rattle.pf_top.proofs.words.parameter.Goals as goal
+use Rattle.pf_top.proofs.words.read_parameter.Goals as goal
 
 pub returns-in-None-clause-value : goal.returns-in-None-clause-value
 returns-in-None-clause-value c = parameter_of_no_slash c.args.bytes.now (sym c.first_slash.ensures ∙ c.in-None.is)
