@@ -14,7 +14,7 @@ use Rattle.pf_text.specs.Right.{IsRight, SaysNo}
 use Rattle.pf_par.specs.Writing.{IsNonnegative, AreNonnegative}
 use Rattle.pf_top.specs.declared.answering.Answer.{Answer}
 use Rattle.pf_top.specs.declared.answering.Answer.TheVariants.{AtPoint, WholeCurve}
-use Rattle.pf_text.specs.Asked.{Command, Problem, network, Asked, refused, accepted, asked, command_of}
+use Rattle.pf_text.specs.Asked.{Command, Problem, Asked, refused, accepted, asked, command_of}
 
 -- all words that ask for the command ask this of the bytes
 abbrev pub Asks : Command → List ℕ → Asked → Type 0
