@@ -12,7 +12,7 @@ ghost use Rattle.pf_frame.specs.Scratch.{Serves};
 use crate::point::Point;
 use pf_frame::{NoMemory, Numbers, Scratch, Side, reach};
 use pf_net::Net;
-use pf_plain::greatest;
+use pf_preflow::greatest;
 use pf_rat::Rat;
 use std::alloc::Global;
 use std::cmp::Ordering;

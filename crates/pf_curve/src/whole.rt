@@ -11,7 +11,7 @@ use crate::family::{Cut, Cuts};
 use pf_envelope::{Part, envelope};
 use pf_frame::{FlowTable, NoMemory, Side};
 use pf_net::Net;
-use pf_plain::greatest;
+use pf_preflow::greatest;
 use pf_rat::Rat;
 use std::alloc::Global;
 

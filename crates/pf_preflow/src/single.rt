@@ -1,0 +1,58 @@
+// One greatest flow, for a caller that keeps no engine and counts no steps.
+ghost use Rattle.std.specs.Prelude.{◌≡◌, ◌≢◌, ◌<◌, length, IfOk, OnErr};
+ghost use Rattle.pf_model.specs.Flow.{IsGreatest};
+ghost use Rattle.pf_model.specs.Graph.{network_of};
+ghost use Rattle.pf_frame.specs.Numbers.{IsBounded};
+ghost use Rattle.pf_preflow.specs.Engine.{IsFor, KeepsEnds, network};
+
+use crate::engine::Engine;
+use pf_frame::{Frame, NoMemory};
+use pf_steps::Steps;
+use std::alloc::Global;
+use std::marker::Brand;
+use std::sync::ledger::{Blank, Ledger};
+
+// Starts the engine and runs it, with a counter that nobody reads.
+fn send<L: Ledger>(
+    engine: &mut Engine,
+    frame: &Frame,
+    caps: &[i128],
+    flow: &mut [i128],
+    blank: Blank,
+)
+    requires name { blank.name ≡ L.name }
+    requires parts { blank.parts ≡ L.parts }
+    requires some { 0 < blank.parts }
+    requires frame { IsFor engine.old frame.now }
+    requires caps { IsBounded frame.now caps.now }
+    requires flow { length flow.old ≡ length frame.now.ends }
+    ensures greatest { IsGreatest (network_of frame.now caps.now engine.old.source engine.old.sink) flow.new }
+{
+    let (book, share) = blank.open::<L>();
+    let mut steps = Steps::new(book, share);
+    engine.start(frame, caps, flow);
+    engine.run(frame, caps, flow, &mut steps);
+}
+
+/// Leaves in `flow` a flow from `s` to `t` whose value no flow exceeds, whatever stood there. `caps` and `flow` are indexed by
+/// arcs, in one unit. All memory is taken first, so `NoMemory` leaves `flow` as it was.
+pub fn greatest(
+    alloc: Global,
+    frame: &Frame,
+    caps: &[i128],
+    s: u32,
+    t: u32,
+    flow: &mut [i128],
+) -> Result<(), NoMemory>
+    requires source { s < frame.now.nodes }
+    requires sink { t < frame.now.nodes }
+    requires apart { s ≢ t }
+    requires caps { IsBounded frame.now caps.now }
+    requires flow { length flow.old ≡ length frame.now.ends }
+    ensures greatest { IfOk result (λ _. IsGreatest (network_of frame.now caps.now s t) flow.new) }
+    ensures unchanged { OnErr result (flow.new ≡ flow.old) }
+{
+    let mut engine = Engine::make(alloc, frame, s, t)?;
+    send::<Brand>(&mut engine, frame, caps, flow, Blank::new(1));
+    Ok(())
+}
