@@ -104,7 +104,7 @@ const ANSWERED: [(&str, &[u8]); 3] = [
 ];
 
 // A text, and the answer to `curve`.
-const CURVES: [(&[u8], &[u8]); 6] = [
+const CURVES: [(&[u8], &[u8]); 9] = [
     (
         b"p par 2 0\ni 0 1 1 1\nn 1 s\nn 2 t\nend\n",
         b"o curve\nk 1\nb 0 0 1 0\ns 1 0 0 10\nb 1 1 1 0\nf 0\nf 1\nend\n",
@@ -128,6 +128,18 @@ const CURVES: [(&[u8], &[u8]); 6] = [
     (
         b"p par 3 2\ni 0 1 6 1\nn 1 s\nn 3 t\na 1 2 2 0\na 2 3 6 -1\nend\n",
         b"o curve\nk 2\nb 0 0 1 2\ns 1 2 0 100\nb 1 4 1 2\ns 2 6 -1 110\nb 2 6 1 0\nf 0 2 2\nf 1 2 2\nf 2 0 0\nend\n",
+    ),
+    (
+        b"p par 3 2\ni 0 1 1000000000 1\nn 1 s\nn 3 t\na 1 2 0 1000000000\na 2 3 1000000000 0\nend\n",
+        b"o curve\nk 2\nb 0 0 1 0\ns 1 0 1000000000 100\nb 1 1 1 1000000000\ns 2 1000000000 0 110\nb 2 1000000000 1 1000000000\nf 0 0 0\nf 1 1000000000 1000000000\nf 2 1000000000 1000000000\nend\n",
+    ),
+    (
+        b"p par 3 2\ni 0 1 2 1\nn 1 s\nn 3 t\na 1 2 0 999999999\na 2 3 1000000000 0\nend\n",
+        b"o curve\nk 2\nb 0 0 1 0\ns 1 0 999999999 100\nb 1 1000000000 999999999 999999999000000000\ns 2 1000000000 0 110\nb 2 2 1 1000000000\nf 0 0 0\nf 1 999999999000000000 999999999000000000\nf 2 1000000000 1000000000\nend\n",
+    ),
+    (
+        b"p par 5 7\ni 0 1 8 1\nn 1 s\nn 5 t\na 1 2 2 1\na 1 3 0 2\na 2 4 5 0\na 3 4 4 0\na 2 3 1 0\na 4 5 14 -1\na 3 5 3 0\nend\n",
+        b"o curve\nk 3\nb 0 0 1 2\ns 1 2 3 10000\nb 1 10 3 36\ns 2 12 0 11100\nb 2 5 1 12\ns 3 17 -1 11110\nb 3 8 1 9\nf 0 2 0 2 0 0 2 0\nf 1 16 20 15 12 1 27 9\nf 2 6 6 5 4 1 9 3\nf 3 3 6 2 4 1 6 3\nend\n",
     ),
 ];
 
@@ -216,6 +228,28 @@ fn each_write_fails_in_turn(rt: HostRuntime) -> Result<(), Fail> {
         assert_eq!(rt; status, Status::WriteFault);
         let taken = (10 * (failing as usize - 1)).min(ANSWER.len());
         assert_eq!(rt; out.taken(), &ANSWER[..taken]);
+    }
+    Ok(())
+}
+
+// The same for the whole interval: ninety-five bytes in pieces of ten take ten writes and a flush.
+#[test]
+fn each_call_of_a_curve_fails_in_turn(rt: HostRuntime) -> Result<(), Fail> {
+    let alloc = rt.alloc();
+    let words = [String::from_str(alloc, "curve")?];
+    for failing in 1..=5 {
+        let mut source = MemSource::new(alloc, TEXT, 16, &[failing])?;
+        let mut out = MemSink::new(alloc, 128, 10, &[])?;
+        let mut err = MemSink::new(alloc, 64, 10, &[])?;
+        let status = run(alloc, &words, &mut source, &mut out, &mut err);
+        assert_eq!(rt; status, Status::ReadFault);
+    }
+    for failing in 1..=11 {
+        let mut source = MemSource::new(alloc, TEXT, 16, &[])?;
+        let mut out = MemSink::new(alloc, 128, 10, &[failing])?;
+        let mut err = MemSink::new(alloc, 64, 10, &[])?;
+        let status = run(alloc, &words, &mut source, &mut out, &mut err);
+        assert_eq!(rt; status, Status::WriteFault);
     }
     Ok(())
 }
