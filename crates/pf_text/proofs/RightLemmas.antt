@@ -1,11 +1,13 @@
 -- Verdicts on texts of curves.
 use Rattle.std.proofs.Common.{◌≡◌, ℕ, Bool, true, false, List, refl, sym, ap, subst, ◌∙◌}
-use Rattle.std.specs.Prelude.{◌↔◌}
+use Rattle.std.specs.Prelude.{◌↔◌, not}
 use Rattle.pf_model.specs.Network.{Network}
 use Rattle.pf_model.specs.Curve.{CertifiesCurve}
 use Rattle.pf_model.specs.Answer.{Curve, IsCurveShape}
 use Rattle.pf_text.specs.Answers.{curve_text, verdict_text}
-use Rattle.pf_text.specs.Right.{IsRightCheck}
+use Rattle.pf_text.specs.Asked.{check_curve}
+use Rattle.pf_text.specs.Right.{IsRightCheck, SaysNo}
+use Rattle.pf_text.proofs.SameAnswers.{same_verdict}
 use Rattle.pf_text.proofs.SameCurves.{same_curve}
 
 abbrev Holds : Network → Curve → Type 0
@@ -40,3 +42,8 @@ equal_tests false false f g = refl
 pub one_verdict : (net : Network) (rest text other : List ℕ) → IsRightCheck net rest text → IsRightCheck net rest other → text ≡ other
 one_verdict net rest text other a b =
     a.text_is ∙ ap verdict_text (equal_tests a.verdict b.verdict (λ t. b.exact.1 (a.exact.0 t)) (λ t. a.exact.1 (b.exact.0 t))) ∙ sym b.text_is
+
+-- the verdict says `no` exactly where it is not `yes`
+pub verdict_says_no : (holds : Bool) → (not holds ≡ true) ↔ SaysNo check_curve (verdict_text holds)
+verdict_says_no true = (λ e. absurd cc, λ e. absurd (let same = same_verdict true false e in cc))
+verdict_says_no false = (λ e. refl, λ e. refl)

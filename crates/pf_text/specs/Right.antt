@@ -1,12 +1,12 @@
 -- Which texts are right answers to what was asked.
-use Rattle.std.specs.Prelude.{◌≡◌, ◌↔◌, ℕ, ◌+◌, ◌<◌, Bool, true, List, length, slice_index_or, pos, ◌+ℤ◌, ◌-ℤ◌, ◌*ℤ◌}
+use Rattle.std.specs.Prelude.{◌≡◌, ◌↔◌, ℕ, ◌+◌, ◌<◌, Bool, true, false, List, length, slice_index_or, pos, ◌+ℤ◌, ◌-ℤ◌, ◌*ℤ◌}
 use Rattle.pf_model.specs.Fraction.{Fraction, lowest}
 use Rattle.pf_model.specs.Cut.{IsLeastValue, IsLeastSize}
 use Rattle.pf_model.specs.Network.{Network, network_at}
 use Rattle.pf_model.specs.Curve.{IsPoint, IsCurve, CertifiesCurve}
 use Rattle.pf_model.specs.Answer.{Point, Curve, Row, IsPointShape, IsCurveShape, IsRowShape}
 use Rattle.pf_text.specs.Answers.{point_text, curve_text, sweep_text, verdict_text}
-use Rattle.pf_text.specs.Asked.{Command, at, curve, Problem, network}
+use Rattle.pf_text.specs.Asked.{Command, at, curve, check_curve, Problem, network}
 
 -- `at`: the smallest least cut at the parameter, in lowest terms, and a flow whose value is its capacity
 pub record IsRightPoint (x : Fraction) (net : Network) (text : List ℕ) : Type 0 where
@@ -70,8 +70,10 @@ IsRightCheck net rest text = IsRightVerdict (IsCertifiedCurve net rest) text
 abbrev pub IsRight : Command → Problem → List ℕ → List ℕ → Type 0
 IsRight (at x) (network net) rest text = IsRightPoint x net text
 IsRight curve (network net) rest text = IsRightCurve net text
+IsRight check_curve (network net) rest text = IsRightCheck net rest text
 
 -- the command asks for a verdict, and the text is that of `no`
 abbrev pub SaysNo : Command → List ℕ → Type 0
 SaysNo (at x) text = ⊥
 SaysNo curve text = ⊥
+SaysNo check_curve text = text ≡ verdict_text false

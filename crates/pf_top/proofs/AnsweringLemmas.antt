@@ -1,6 +1,6 @@
 -- The network of the bytes, the point, and what the bytes then ask.
 use Rattle.std.proofs.Common.{◌≡◌, ℕ, ◌+◌, ◌≤◌, ◌^◌, Bool, true, false, List, [], ◌∷◌, length, Result, Ok, Err, refl, sym, ◌∙◌, inl, inr, arith}
-use Rattle.std.specs.Prelude.{◌⊎◌, ◌||◌}
+use Rattle.std.specs.Prelude.{◌⊎◌, ◌||◌, not}
 use Rattle.pf_model.specs.Fraction.{Fraction, IsParameter, IsBelow, IsEqual, is_below}
 use Rattle.pf_model.specs.Network.{Network}
 use Rattle.pf_model.specs.Answer.{Point, Curve, IsPointShape, IsCurveShape}
@@ -11,9 +11,11 @@ use Rattle.pf_text.specs.declared.Refusal.TheVariants.{Text, Outside}
 use Rattle.pf_text.specs.Lines.{Line, lines_from}
 use Rattle.pf_text.specs.Kinds.{Accepted, problem_of_lines, problem_of}
 use Rattle.pf_text.specs.Par.{par}
-use Rattle.pf_text.specs.Asked.{Command, at, curve, network, is_outside}
+use Rattle.pf_text.specs.Asked.{Command, at, curve, check_curve, network, is_outside, takes_answer}
 use Rattle.pf_text.proofs.AskedLemmas.{asked_bad, asked_behind, asked_refused, asked_accepted, problem_for_par, problem_for_par_bad, line_behind}
 use Rattle.pf_text.proofs.ParLaw.{accepted_is_monotone}
+use Rattle.pf_text.proofs.RightLemmas.{verdict_says_no}
+use Rattle.pf_text.specs.Right.{IsRightCheck}
 use Rattle.pf_lines.specs.Places.{Place, lines_left}
 use Rattle.pf_lines.specs.declared.errors.ReadBad.{ReadBad}
 use Rattle.pf_lines.specs.declared.errors.ReadBad.TheVariants as reads
@@ -21,8 +23,8 @@ use Rattle.pf_text.specs.declared.Refusal.{Refusal}
 use Rattle.pf_par.specs.Reading.{Agrees}
 use Rattle.pf_par.specs.Writing.{IsNonnegative, AreNonnegative}
 use Rattle.pf_par.proofs.WritingLemmas.{flows_are_nonnegative}
-use Rattle.pf_text.specs.Answers.{point_text, curve_text}
-use Rattle.pf_top.specs.Answering.{IsRefused, IsNetworkOf, IsPointAt, IsCurveOf, IsMade}
+use Rattle.pf_text.specs.Answers.{point_text, curve_text, verdict_text}
+use Rattle.pf_top.specs.Answering.{IsBadText, IsReadTo, IsRefused, IsNetworkOf, IsPointAt, IsCurveOf, IsMade}
 
 -- ---- the parameter and the interval
 
@@ -64,36 +66,35 @@ pub network_found : (bytes : List ℕ) (read : Accepted Network) → problem_of_
 unfolding problem_of
 network_found bytes read judged alone = record { read = read; text = judged; same = refl; alone = alone }
 
-pub network_behind : (bytes : List ℕ) (read : Accepted Network) (line : Line) (later : List Line) (command : Command) → length bytes ≤ 2 ^ 29
+network_behind : (bytes : List ℕ) (read : Accepted Network) (line : Line) (later : List Line) (command : Command) → length bytes ≤ 2 ^ 29 → takes_answer command ≡ false
     → problem_of_lines par (lines_from 1 bytes) ≡ Ok read → lines_from (read.line + 1) read.rest ≡ line ∷ later → IsRefused command bytes (Text (Syntax line.number))
 unfolding problem_of
-network_behind bytes read line later command short judged behind = record {
+network_behind bytes read line later command short plain judged behind = record {
   asks = λ words some. asked_behind words bytes command (record { problem = network read.problem; rest = read.rest; line = read.line }) (Text (Syntax line.number)) some short
-      (problem_for_par command bytes read judged) (line_behind command (record { problem = network read.problem; rest = read.rest; line = read.line }) line later behind);
+      (problem_for_par command bytes read judged) (line_behind command (record { problem = network read.problem; rest = read.rest; line = read.line }) line later plain behind);
   short = λ e. cc;
 }
 
 -- the same, as the code reads the lines
 
-pub network_refused : (bytes : List ℕ) (start : Place) (value : Network → Accepted Network) (r : Result Network ReadBad) (bad : TextBad) (refusal : Refusal) (command : Command) → length bytes ≤ 2 ^ 29
-    → start ≡ record { number = 0; rest = bytes } → Agrees (problem_of_lines par (lines_left start)) value r → r ≡ Err (reads.Text bad) → Text bad ≡ refusal → IsRefused command bytes refusal
-network_refused bytes start value r bad refusal command short begins judged e same =
-    let lines : problem_of_lines par (lines_left start) ≡ Err bad = rw e at judged in
-    rw (← same) (network_bad bytes bad command short (rw begins at lines))
+pub read_to : (before after : Place) (r : Result Network ReadBad) (net : Network) → Agrees (problem_of_lines par (lines_left before)) (λ net. record { problem = net; rest = after.rest; line = after.number }) r → r ≡ Ok net
+    → IsReadTo before after net
+read_to before after r net judged e = record { judged = rw e at judged }
 
-pub network_made : (bytes : List ℕ) (start after : Place) (r : Result Network ReadBad) (net : Network)
-    → start ≡ record { number = 0; rest = bytes } → Agrees (problem_of_lines par (lines_left start)) (λ net. record { problem = net; rest = after.rest; line = after.number }) r → r ≡ Ok net
-    → lines_left after ≡ [] → IsNetworkOf bytes net
-network_made bytes start after r net begins judged e alone =
-    let lines : problem_of_lines par (lines_left start) ≡ Ok (record { problem = net; rest = after.rest; line = after.number }) = rw e at judged in
-    network_found bytes (record { problem = net; rest = after.rest; line = after.number }) (rw begins at lines) alone
+pub bad_text : (before : Place) (value : Network → Accepted Network) (r : Result Network ReadBad) (bad : TextBad) (refusal : Refusal) → Agrees (problem_of_lines par (lines_left before)) value r → r ≡ Err (reads.Text bad) → refusal ≡ Text bad
+    → IsBadText before refusal
+bad_text before value r bad refusal judged e same = record { bad = bad; judged = rw e at judged; same = same }
 
-pub network_followed : (bytes : List ℕ) (start after : Place) (r : Result Network ReadBad) (net : Network) (line : Line) (later : List Line) (refusal : Refusal) (command : Command) → length bytes ≤ 2 ^ 29
-    → start ≡ record { number = 0; rest = bytes } → Agrees (problem_of_lines par (lines_left start)) (λ net. record { problem = net; rest = after.rest; line = after.number }) r → r ≡ Ok net
-    → lines_left after ≡ line ∷ later → Text (Syntax line.number) ≡ refusal → IsRefused command bytes refusal
-network_followed bytes start after r net line later refusal command short begins judged e behind same =
-    let lines : problem_of_lines par (lines_left start) ≡ Ok (record { problem = net; rest = after.rest; line = after.number }) = rw e at judged in
-    rw (← same) (network_behind bytes (record { problem = net; rest = after.rest; line = after.number }) line later command short (rw begins at lines) behind)
+pub network_refused : (bytes : List ℕ) (start : Place) (refusal : Refusal) (command : Command) → length bytes ≤ 2 ^ 29 → start ≡ record { number = 0; rest = bytes } → IsBadText start refusal → IsRefused command bytes refusal
+network_refused bytes start refusal command short begins b = rw b.same (network_bad bytes b.bad command short (rw begins at b.judged))
+
+pub network_made : (bytes : List ℕ) (start after : Place) (net : Network) → start ≡ record { number = 0; rest = bytes } → IsReadTo start after net → lines_left after ≡ [] → IsNetworkOf bytes net
+network_made bytes start after net begins r alone = network_found bytes (record { problem = net; rest = after.rest; line = after.number }) (rw begins at r.judged) alone
+
+pub network_followed : (bytes : List ℕ) (start after : Place) (net : Network) (line : Line) (later : List Line) (refusal : Refusal) (command : Command) → length bytes ≤ 2 ^ 29
+    → start ≡ record { number = 0; rest = bytes } → IsReadTo start after net → lines_left after ≡ line ∷ later → Text (Syntax line.number) ≡ refusal → takes_answer command ≡ false → IsRefused command bytes refusal
+network_followed bytes start after net line later refusal command short begins r behind same plain =
+    rw (← same) (network_behind bytes (record { problem = net; rest = after.rest; line = after.number }) line later command short plain (rw begins at r.judged) behind)
 
 -- ---- the point
 
@@ -112,25 +113,38 @@ asks_outside x bytes net short n out = record {
 
 -- the answer at a parameter
 pub made_point : (x : Fraction) (bytes : List ℕ) (net : Network) (point : Point) → length bytes ≤ 2 ^ 29 → IsNetworkOf bytes net → is_outside x net ≡ false → IsPointAt x net point
-    → IsMade (at x) bytes (point_text net point)
+    → IsMade (at x) bytes (point_text net point) false
 made_point x bytes net point short n inside best = record {
   problem = network net;
   rest = n.read.rest;
   asks = λ words some. asked_accepted words bytes (at x) (record { problem = network n.read.problem; rest = n.read.rest; line = n.read.line }) some short
       (problem_for_par (at x) bytes n.read n.text) (rw n.alone refl) (rw (n.same, inside) refl) ∙ rw n.same refl;
   right = record { point = point; shape = best.shape; parameter = best.parameter; best = best.best; text_is = refl };
-  yes = λ f. f;
+  verdict = (λ e. absurd cc, λ f. absurd f);
 }
 
 -- the answer for the whole interval
-pub made_curve : (bytes : List ℕ) (net : Network) (whole : Curve) → length bytes ≤ 2 ^ 29 → IsNetworkOf bytes net → IsCurveOf net whole → IsMade curve bytes (curve_text net whole)
+pub made_curve : (bytes : List ℕ) (net : Network) (whole : Curve) → length bytes ≤ 2 ^ 29 → IsNetworkOf bytes net → IsCurveOf net whole → IsMade curve bytes (curve_text net whole) false
 made_curve bytes net whole short n best = record {
   problem = network net;
   rest = n.read.rest;
   asks = λ words some. asked_accepted words bytes curve (record { problem = network n.read.problem; rest = n.read.rest; line = n.read.line }) some short
       (problem_for_par curve bytes n.read n.text) (rw n.alone refl) refl ∙ rw n.same refl;
   right = record { curve = whole; shape = best.shape; best = best.best; certificate = best.certificate; text_is = refl };
-  yes = λ f. f;
+  verdict = (λ e. absurd cc, λ f. absurd f);
+}
+
+-- the verdict on the text behind the problem
+pub made_verdict : (bytes : List ℕ) (start after : Place) (net : Network) (holds : Bool) → length bytes ≤ 2 ^ 29 → start ≡ record { number = 0; rest = bytes } → IsReadTo start after net
+    → IsRightCheck net after.rest (verdict_text holds) → IsMade check_curve bytes (verdict_text holds) (not holds)
+unfolding problem_of
+made_verdict bytes start after net holds short begins r right = record {
+  problem = network net;
+  rest = after.rest;
+  asks = λ words some. asked_accepted words bytes check_curve (record { problem = network net; rest = after.rest; line = after.number }) some short
+      (problem_for_par check_curve bytes (record { problem = net; rest = after.rest; line = after.number }) (rw begins at r.judged)) refl refl;
+  right = right;
+  verdict = verdict_says_no holds;
 }
 
 pub printable_point : (x : Fraction) (net : Network) (point : Point) → IsPointAt x net point → IsPointShape net point × IsNonnegative point.flow

@@ -1,7 +1,7 @@
 -- What stands after each way for a run to end.
-use Rattle.std.proofs.Common.{◌≡◌, ◌≢◌, ℕ, ◌+◌, ◌<◌, ◌≤◌, ◌^◌, List, [], ◌++◌, length, Option, Some, None, Result, Ok, Err, refl, ap, ◌∙◌, inl, inr, arith}
+use Rattle.std.proofs.Common.{◌≡◌, ◌≢◌, ℕ, ◌+◌, ◌<◌, ◌≤◌, ◌^◌, Bool, true, false, List, [], ◌++◌, length, Option, Some, None, Result, Ok, Err, refl, ap, ◌∙◌, inl, inr, arith}
 use Rattle.std.proofs.lemmas.List.{append-nil, length-append}
-use Rattle.std.specs.Prelude.{OnOk, IfSome, ◌↔◌, ◌⊎◌}
+use Rattle.std.specs.Prelude.{OnOk, IfSome, ◌↔◌, ◌⊎◌, if◌then◌else◌}
 use Rattle.pf_io.specs.declared.device.Failed.{Failed}
 use Rattle.pf_io.specs.declared.device.Sink.{Ghosts as Sink}
 use Rattle.pf_io.specs.declared.device.Source.{Ghosts as Source}
@@ -9,7 +9,7 @@ use Rattle.pf_io.specs.Faults.{Rose, HasCause}
 use Rattle.pf_io.specs.Told.{Gave, GaveCount, Took, IsFrontOf, NoneLeft, after_told, told_length}
 use Rattle.pf_text.specs.declared.Refusal.{Refusal}
 use Rattle.pf_text.specs.declared.Refusal.TheVariants as refusals
-use Rattle.pf_text.specs.Asked.{Command, at, curve, Asked, usage, refused, accepted, asked, command_of}
+use Rattle.pf_text.specs.Asked.{Command, at, curve, check_curve, Asked, usage, refused, accepted, asked, command_of}
 use Rattle.pf_text.proofs.AskedLemmas.{asked_usage, asked_something, asked_long}
 use Rattle.pf_top.specs.Answering.{IsRefused, IsMade}
 use Rattle.pf_top.specs.Words.{command_of_request}
@@ -84,6 +84,7 @@ is_due S so sn O oo on ask NoMemory says fault read wrote memory = absurd (memor
 read_after : {T : Type 0} (S : Source T) (so sn : T) (command : Command) (status : Status) → WasRead S so sn status → SourceAfter S so sn (Some command) status
 read_after S so sn (at x) status was = was
 read_after S so sn curve status was = was
+read_after S so sn check_curve status was = was
 
 source_after : {T : Type 0} (S : Source T) (so sn : T) (request : Request) (words : List (List ℕ)) (status : Status) → command_of words ≡ Some (command_of_request request)
     → WasRead S so sn status → SourceAfter S so sn (command_of words) status
@@ -174,18 +175,33 @@ run_refused S so sn O o request words bytes refusal some gave ended later r =
     }
 
 -- the text that was made is that of a right answer
-right_text : (command : Command) (words : List (List ℕ)) (bytes text : List ℕ) → command_of words ≡ Some command → IsMade command bytes text → IsAnswerTo (asked words bytes) text
-right_text command words bytes text some m = rw (m.asks words some) m.right
+right_text : (command : Command) (words : List (List ℕ)) (bytes text : List ℕ) (no' : Bool) → command_of words ≡ Some command → IsMade command bytes text no' → IsAnswerTo (asked words bytes) text
+right_text command words bytes text no' some m = rw (m.asks words some) m.right
 
-never_no : (command : Command) (words : List (List ℕ)) (bytes text : List ℕ) → command_of words ≡ Some command → IsMade command bytes text → ¬ IsNoTo (asked words bytes) text
-never_no command words bytes text some m = rw (m.asks words some) m.yes
+is_no_to : (command : Command) (words : List (List ℕ)) (bytes text : List ℕ) → command_of words ≡ Some command → IsMade command bytes text true → IsNoTo (asked words bytes) text
+is_no_to command words bytes text some m = rw (m.asks words some) (m.verdict.0 refl)
 
-pub run_done : {T U : Type 0} (S : Source T) (so sn : T) (O : Sink U) (oo on : U) (request : Request) (words : List (List ℕ)) (bytes text : List ℕ)
+never_no : (command : Command) (words : List (List ℕ)) (bytes text : List ℕ) → command_of words ≡ Some command → IsMade command bytes text false → ¬ IsNoTo (asked words bytes) text
+never_no command words bytes text some m = rw (m.asks words some) (λ says. absurd (let e = m.verdict.1 says in cc))
+
+pub run_answered : {T U : Type 0} (S : Source T) (so sn : T) (O : Sink U) (oo on : U) (request : Request) (words : List (List ℕ)) (bytes text : List ℕ) (no' : Bool)
     → command_of words ≡ Some (command_of_request request) → Gave (S.left so) (S.left sn) bytes → NoneLeft (S.left sn) → S.faults so ≤ S.faults sn → O.faults oo ≤ O.faults on
-    → IsMade (command_of_request request) bytes text → TookWhole O oo on text → IsRun S so sn O oo on words Done
-run_done S so sn O oo on request words bytes text some gave ended later later' m took =
+    → IsMade (command_of_request request) bytes text no' → TookWhole O oo on text → IsRun S so sn O oo on words (if no' then No else Done)
+run_answered S so sn O oo on request words bytes text true some gave ended later later' m took =
     let command = command_of_request request in
-    let says : Says O oo on (asked words bytes) Done = (text, right_text command words bytes text some m, never_no command words bytes text some m, took) in
+    let says : Says O oo on (asked words bytes) No = (text, right_text command words bytes text true some m, is_no_to command words bytes text some m, took) in
+    record {
+      bytes = bytes;
+      told = told_whole (S.left so) (S.left sn) bytes gave ended;
+      says = says;
+      source = source_after S so sn request words No some ended;
+      source_count = later;
+      out_count = later';
+      complete = λ read wrote memory. is_due S so sn O oo on (asked words bytes) No says (λ e. absurd cc) read wrote memory;
+    }
+run_answered S so sn O oo on request words bytes text false some gave ended later later' m took =
+    let command = command_of_request request in
+    let says : Says O oo on (asked words bytes) Done = (text, right_text command words bytes text false some m, never_no command words bytes text some m, took) in
     record {
       bytes = bytes;
       told = told_whole (S.left so) (S.left sn) bytes gave ended;
@@ -196,14 +212,14 @@ run_done S so sn O oo on request words bytes text some gave ended later later' m
       complete = λ read wrote memory. is_due S so sn O oo on (asked words bytes) Done says (λ e. absurd cc) read wrote memory;
     }
 
-pub run_write_fault : {T U : Type 0} (S : Source T) (so sn : T) (O : Sink U) (oo on : U) (request : Request) (words : List (List ℕ)) (bytes text : List ℕ)
+pub run_write_fault : {T U : Type 0} (S : Source T) (so sn : T) (O : Sink U) (oo on : U) (request : Request) (words : List (List ℕ)) (bytes text : List ℕ) (no' : Bool)
     → command_of words ≡ Some (command_of_request request) → Gave (S.left so) (S.left sn) bytes → NoneLeft (S.left sn) → S.faults so ≤ S.faults sn → O.faults oo ≤ O.faults on
-    → IsMade (command_of_request request) bytes text → Rose (O.faults oo) (O.faults on) → TookFront O oo on text → IsRun S so sn O oo on words WriteFault
-run_write_fault S so sn O oo on request words bytes text some gave ended later later' m rose took =
+    → IsMade (command_of_request request) bytes text no' → Rose (O.faults oo) (O.faults on) → TookFront O oo on text → IsRun S so sn O oo on words WriteFault
+run_write_fault S so sn O oo on request words bytes text no' some gave ended later later' m rose took =
     record {
       bytes = bytes;
       told = told_whole (S.left so) (S.left sn) bytes gave ended;
-      says = (text, right_text (command_of_request request) words bytes text some m, rose, took);
+      says = (text, right_text (command_of_request request) words bytes text no' some m, rose, took);
       source = source_after S so sn request words WriteFault some ended;
       source_count = later;
       out_count = later';
@@ -219,3 +235,4 @@ usage_by_words S so sn O oo on words status run = by (command_of words) refl run
     by None e after = (λ same. refl, λ same. after.0)
     by (Some (at x)) e after = (λ same. absurd (rw same at after), λ same. absurd cc)
     by (Some curve) e after = (λ same. absurd (rw same at after), λ same. absurd cc)
+    by (Some check_curve) e after = (λ same. absurd (rw same at after), λ same. absurd cc)

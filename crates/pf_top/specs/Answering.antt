@@ -1,19 +1,21 @@
 -- What a network and a point have to do with the bytes that they are made from.
-use Rattle.std.specs.Prelude.{◌≡◌, ◌≢◌, ℕ, ◌+◌, List, [], Some, Ok}
+use Rattle.std.specs.Prelude.{◌≡◌, ◌≢◌, ◌↔◌, ℕ, ◌+◌, Bool, true, false, not, List, [], Some, Ok, Err}
 use Rattle.pf_model.specs.Fraction.{Fraction, lowest}
 use Rattle.pf_model.specs.Network.{Network}
 use Rattle.pf_model.specs.Answer.{Point, Curve, IsPointShape, IsCurveShape}
 use Rattle.pf_model.specs.Curve.{IsPoint, IsCurve, CertifiesCurve}
 use Rattle.pf_text.specs.declared.Refusal.{Refusal}
-use Rattle.pf_text.specs.declared.Refusal.TheVariants.{TooLong}
+use Rattle.pf_text.specs.declared.TextBad.{TextBad}
+use Rattle.pf_text.specs.declared.Refusal.TheVariants.{Text, TooLong}
 use Rattle.pf_text.specs.Lines.{lines_from}
-use Rattle.pf_text.specs.Kinds.{Accepted, problem_of}
+use Rattle.pf_text.specs.Kinds.{Accepted, problem_of_lines, problem_of}
 use Rattle.pf_text.specs.Par.{par}
-use Rattle.pf_text.specs.Answers.{point_text, curve_text}
+use Rattle.pf_text.specs.Answers.{point_text, curve_text, verdict_text}
 use Rattle.pf_text.specs.Right.{IsRight, SaysNo}
+use Rattle.pf_lines.specs.Places.{Place, lines_left}
 use Rattle.pf_par.specs.Writing.{IsNonnegative, AreNonnegative}
 use Rattle.pf_top.specs.declared.answering.Answer.{Answer}
-use Rattle.pf_top.specs.declared.answering.Answer.TheVariants.{AtPoint, WholeCurve}
+use Rattle.pf_top.specs.declared.answering.Answer.TheVariants.{AtPoint, WholeCurve, Verdict}
 use Rattle.pf_text.specs.Asked.{Command, Problem, Asked, refused, accepted, asked, command_of}
 
 -- all words that ask for the command ask this of the bytes
@@ -24,6 +26,23 @@ Asks command bytes ask = (words : List (List ℕ)) → command_of words ≡ Some
 pub record IsRefused (command : Command) (bytes : List ℕ) (refusal : Refusal) : Type 0 where
   pub asks : Asks command bytes (refused refusal)
   pub short : refusal ≢ TooLong
+
+-- the lines that are left at a place give the network, and the other place is the one behind them
+pub record IsReadTo (before after : Place) (net : Network) : Type 0 where
+  pub judged : problem_of_lines par (lines_left before) ≡ Ok (record { problem = net; rest = after.rest; line = after.number })
+
+-- they are refused
+pub record IsBadText (before : Place) (refusal : Refusal) : Type 0 where
+  pub bad : TextBad
+  pub judged : problem_of_lines par (lines_left before) ≡ Err bad
+  pub same : refusal ≡ Text bad
+
+-- the text is that of the network, with these bytes behind it
+pub record IsNetworkBefore (bytes rest : List ℕ) (net : Network) : Type 0 where
+  pub read : Accepted Network
+  pub text : problem_of par bytes ≡ Ok read
+  pub same : read.problem ≡ net
+  pub behind : read.rest ≡ rest
 
 -- the text is that of the network, with no line behind it
 pub record IsNetworkOf (bytes : List ℕ) (net : Network) : Type 0 where
@@ -48,16 +67,24 @@ pub record IsCurveOf (net : Network) (curve : Curve) : Type 0 where
 abbrev pub text_of_answer : Answer → List ℕ
 text_of_answer (AtPoint net point) = point_text net point
 text_of_answer (WholeCurve net curve) = curve_text net curve
+text_of_answer (Verdict holds) = verdict_text holds
+
+-- the answer is `no`
+abbrev pub is_no : Answer → Bool
+is_no (AtPoint net point) = false
+is_no (WholeCurve net curve) = false
+is_no (Verdict holds) = not holds
 
 -- the answer has a shape that can be printed
 abbrev pub IsPrintable : Answer → Type 0
 IsPrintable (AtPoint net point) = IsPointShape net point × IsNonnegative point.flow
 IsPrintable (WholeCurve net curve) = IsCurveShape net curve × AreNonnegative curve.flows
+IsPrintable (Verdict holds) = Unit {0}
 
--- the bytes ask for this text: it is that of a right answer, which is not `no`
-pub record IsMade (command : Command) (bytes text : List ℕ) : Type 0 where
+-- the bytes ask for this text: it is that of a right answer, and it says `no` exactly where it is said to
+pub record IsMade (command : Command) (bytes text : List ℕ) (says_no : Bool) : Type 0 where
   pub problem : Problem
   pub rest : List ℕ
   pub asks : Asks command bytes (accepted command problem rest)
   pub right : IsRight command problem rest text
-  pub yes : ¬ SaysNo command text
+  pub verdict : (says_no ≡ true) ↔ SaysNo command text

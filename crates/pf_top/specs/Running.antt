@@ -5,7 +5,7 @@ use Rattle.pf_io.specs.declared.device.Sink.{Ghosts as Sink}
 use Rattle.pf_io.specs.Faults.{Rose}
 use Rattle.pf_io.specs.Told.{GaveCount, Took, IsFrontOf, NoneLeft, after_told, told_length}
 use Rattle.pf_text.specs.declared.Refusal.TheVariants.{TooLong}
-use Rattle.pf_text.specs.Asked.{Command, at, curve, Asked, usage, refused, accepted, asked, command_of}
+use Rattle.pf_text.specs.Asked.{Command, at, curve, check_curve, Asked, usage, refused, accepted, asked, command_of}
 use Rattle.pf_text.specs.Right.{IsRight, SaysNo}
 use Rattle.pf_top.specs.declared.status.Status.{Status}
 use Rattle.pf_top.specs.declared.status.Status.TheVariants.{Done, No, Usage, Refused, ReadFault, WriteFault, NoMemory}
@@ -55,6 +55,7 @@ abbrev pub SourceAfter : {T : Type 0} → Source T → T → T → Option Comman
 SourceAfter S old new None status = (status ≡ Usage) × (new ≡ old)
 SourceAfter S old new (Some (at x)) status = WasRead S old new status
 SourceAfter S old new (Some curve) status = WasRead S old new status
+SourceAfter S old new (Some check_curve) status = WasRead S old new status
 
 -- the status that is due for what was asked
 abbrev pub IsDue : Asked → Status → Type 0

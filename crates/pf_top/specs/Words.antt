@@ -6,10 +6,10 @@ use Rattle.std.specs.declared.alloc.Global.{Global}
 use Rattle.pf_model.specs.Fraction.{Fraction, IsBoundedFraction}
 use Rattle.pf_text.specs.Numbers.{natural_of, whole_of}
 use Rattle.pf_text.specs.Par.{billion}
-use Rattle.pf_text.specs.Asked.{Command, at, curve, natural_within, integer_within, fraction_of_numbers}
+use Rattle.pf_text.specs.Asked.{Command, at, curve, check_curve, natural_within, integer_within, fraction_of_numbers}
 use Rattle.pf_top.specs.declared.words.Parameter.{Parameter}
 use Rattle.pf_top.specs.declared.words.Request.{Request}
-use Rattle.pf_top.specs.declared.words.Request.TheVariants.{At, Curve}
+use Rattle.pf_top.specs.declared.words.Request.TheVariants.{At, Curve, CheckCurve}
 
 -- the bytes of each word
 abbrev pub word_bytes : List (String Global) → List (List ℕ)
@@ -31,7 +31,9 @@ IsBoundedParameter parameter = IsBoundedFraction (fraction_of_parameter paramete
 abbrev pub command_of_request : Request → Command
 command_of_request (At parameter) = at (fraction_of_parameter parameter)
 command_of_request Curve = curve
+command_of_request CheckCurve = check_curve
 
 abbrev pub IsBoundedRequest : Request → Type 0
 IsBoundedRequest (At parameter) = IsBoundedParameter parameter
 IsBoundedRequest Curve = ⊤
+IsBoundedRequest CheckCurve = ⊤

@@ -1,10 +1,11 @@
 // From the words and the bytes of a source to the bytes of a sink and a status.
-ghost use Rattle.std.specs.Prelude.{◌≡◌, ℕ, List, ◌↔◌, ◌≤◌, Some, None, OnOk, false};
+ghost use Rattle.std.specs.Prelude.{◌≡◌, ℕ, List, ◌↔◌, ◌≤◌, Some, None, OnOk, false, if◌then◌else◌};
 ghost use Rattle.pf_io.specs.Faults.{HasCause};
 ghost use Rattle.pf_io.specs.Told.{IsFrontOf, after_told};
+ghost use Rattle.pf_text.specs.Answers.{verdict_text};
 ghost use Rattle.pf_text.specs.Asked.{command_of};
 ghost use Rattle.pf_io.specs.Printing.{Adds, is_spent};
-ghost use Rattle.pf_top.specs.Answering.{IsPrintable, text_of_answer};
+ghost use Rattle.pf_top.specs.Answering.{IsPrintable, text_of_answer, is_no};
 ghost use Rattle.pf_top.specs.Words.{word_bytes, command_of_request, IsBoundedRequest};
 ghost use Rattle.pf_top.specs.Messages.{ErrAfter};
 ghost use Rattle.pf_top.specs.Running.{TookWhole, IsRun};
@@ -21,6 +22,19 @@ use std::alloc::Global;
 /// The most bytes of an input.
 const LIMIT: usize = 1 << 29;
 
+// The answer to `check`.
+fn write_verdict<O: Sink>(printer: &mut Printer<'_, O>, holds: bool) -> Result<(), Failed>
+    requires { is_spent printer.old ≡ false }
+    ensures { Adds printer.old printer.new (verdict_text holds) result }
+{
+    if holds {
+        printer.word(b"o check\nyes\nend\n")?;
+        return Ok(());
+    }
+    printer.word(b"o check\nno\nend\n")?;
+    Ok(())
+}
+
 // Prints the answer.
 fn print<O: Sink>(printer: &mut Printer<'_, O>, answer: &Answer) -> Result<(), Failed>
     requires usable { is_spent printer.old ≡ false }
@@ -30,6 +44,24 @@ fn print<O: Sink>(printer: &mut Printer<'_, O>, answer: &Answer) -> Result<(), F
     match answer {
         Answer::AtPoint(net, point) => write_at(printer, net, point),
         Answer::WholeCurve(net, curve) => write_curve(printer, net, curve),
+        Answer::Verdict(holds) => write_verdict(printer, *holds),
+    }
+}
+
+// The status of an answer that went out.
+fn status_of(answer: &Answer) -> Status
+    ensures { result ≡ (if is_no answer.now then Status.No else Status.Done) }
+{
+    match answer {
+        Answer::AtPoint(_, _) => Status::Done,
+        Answer::WholeCurve(_, _) => Status::Done,
+        Answer::Verdict(holds) => {
+            if *holds {
+                Status::Done
+            } else {
+                Status::No
+            }
+        }
     }
 }
 
@@ -60,7 +92,7 @@ fn work<S: Source, O: Sink>(alloc: Global, request: &Request, source: &mut S, ou
     };
     match answer_request(alloc, request, &bytes) {
         Ok(answer) => match hand_out(out, &answer) {
-            Ok(()) => Status::Done,
+            Ok(()) => status_of(&answer),
             Err(_) => Status::WriteFault,
         },
         Err(Stop::Refused(refusal)) => Status::Refused(refusal),

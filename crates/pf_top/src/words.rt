@@ -2,7 +2,7 @@
 ghost use Rattle.std.specs.Prelude.{◌≡◌, IfSome, ◌==◌};
 ghost use Rattle.std.specs.List.{position};
 ghost use Rattle.std.specs.Option.{option_map};
-ghost use Rattle.pf_text.specs.Asked.{parameter_of, one_word, two_words, command_of};
+ghost use Rattle.pf_text.specs.Asked.{at, parameter_of, one_word, check_word, two_words, command_of};
 ghost use Rattle.pf_top.specs.Words.{word_bytes, fraction_of_parameter, command_of_request, IsBoundedParameter, IsBoundedRequest, fraction_of_parts};
 
 use pf_lines::whole;
@@ -21,6 +21,8 @@ pub enum Request {
     At(Parameter),
     /// The whole least-cut function.
     Curve,
+    /// Whether a text certifies the whole least-cut function.
+    CheckCurve,
 }
 
 const BILLION: i64 = 1_000_000_000;
@@ -72,18 +74,40 @@ fn one_word(first: &[u8]) -> Option<Request>
     Some(Request::Curve)
 }
 
+// What `at` asks for with this second word, if it is a parameter.
+fn at_word(second: &[u8]) -> Option<Request>
+    ensures bounds { IfSome result IsBoundedRequest }
+    ensures value { option_map at (parameter_of second.now) ≡ option_map command_of_request result }
+{
+    match read_parameter(second) {
+        Some(parameter) => Some(Request::At(parameter)),
+        None => None,
+    }
+}
+
+// What `check` asks for with this second word, if it names a command with a certificate.
+fn check_word(second: &[u8]) -> Option<Request>
+    ensures bounds { IfSome result IsBoundedRequest }
+    ensures value { check_word second.now ≡ option_map command_of_request result }
+{
+    if second != b"curve".as_slice() {
+        return None;
+    }
+    Some(Request::CheckCurve)
+}
+
 // What two words ask for, if they have the form of a command.
 fn two_words(first: &[u8], second: &[u8]) -> Option<Request>
     ensures bounds { IfSome result IsBoundedRequest }
     ensures value { two_words first.now second.now ≡ option_map command_of_request result }
 {
-    if first != b"at".as_slice() {
-        return None;
+    if first == b"at".as_slice() {
+        return at_word(second);
     }
-    match read_parameter(second) {
-        Some(parameter) => Some(Request::At(parameter)),
-        None => None,
+    if first == b"check".as_slice() {
+        return check_word(second);
     }
+    None
 }
 
 /// What the words ask for, if they have the form of a command.

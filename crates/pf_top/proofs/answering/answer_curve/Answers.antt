@@ -1,3 +1,4 @@
+use Rattle.std.proofs.Common.{refl}
 use Rattle.std.proofs.lemmas.Result.{err_from_is_err_and}
 use Rattle.pf_text.specs.Asked.{curve}
 use Rattle.pf_top.proofs.AnsweringLemmas.{made_curve, printable_curve}
@@ -14,7 +15,7 @@ returns-in_err-net-clause-refused c = λ refusal e.
     let p = err_from_is_err_and c.from_residual.result c.from_residual.ensures.1 in
     let same = p.1 in
     let was = c.in_err-net.was in
-    c.network.ensures.refused refusal (cc) curve
+    c.network.ensures.refused refusal (cc) curve refl
 
 pub returns-in_err-whole-clause-refused : goal.returns-in_err-whole-clause-refused
 returns-in_err-whole-clause-refused c = λ refusal e.

@@ -1,6 +1,6 @@
 use Rattle.std.proofs.Common.{ap, ◌∙◌, Err}
-use Rattle.pf_top.specs.Answering.{text_of_answer}
-use Rattle.pf_top.proofs.RunningLemmas.{run_read_fault, run_too_long, run_no_memory, run_done, run_write_fault}
+use Rattle.pf_top.specs.Answering.{text_of_answer, is_no}
+use Rattle.pf_top.proofs.RunningLemmas.{run_read_fault, run_too_long, run_no_memory, run_answered, run_write_fault}
 use Rattle.pf_top.proofs.running.work.Goals as goal
 
 pub returns-in-Err-Failed : goal.returns-in-Err-Failed
@@ -20,12 +20,13 @@ returns-in-Err-NoMemory g c = λ words some.
 
 pub returns-in-Ok-hand_out : goal.returns-in-Ok-hand_out
 returns-in-Ok-hand_out g c = λ words some.
-    run_done g.S.Source c.args.source.now c.read_all.new.source g.O.Sink c.args.out.now c.hand_out.new.out c.args.request.now words c.in-Ok.bytes.items (text_of_answer c.in-Ok-answer_request.answer)
-    some c.in-Ok.ensures.whole c.in-Ok.ensures.end c.read_all.ensures.later c.hand_out.ensures.cause.later (rw c.deref.ensures.value at c.in-Ok-answer_request.ensures.made) c.in-Ok-hand_out.ensures.whole
+    rw c.status_of.ensures
+    (run_answered g.S.Source c.args.source.now c.read_all.new.source g.O.Sink c.args.out.now c.hand_out.new.out c.args.request.now words c.in-Ok.bytes.items (text_of_answer c.in-Ok-answer_request.answer) (is_no c.in-Ok-answer_request.answer)
+        some c.in-Ok.ensures.whole c.in-Ok.ensures.end c.read_all.ensures.later c.hand_out.ensures.cause.later (rw c.deref.ensures.value at c.in-Ok-answer_request.ensures.made) c.in-Ok-hand_out.ensures.whole)
 
 pub returns-in-Ok-answer_request : goal.returns-in-Ok-answer_request
 returns-in-Ok-answer_request g c = λ words some.
-    run_write_fault g.S.Source c.args.source.now c.read_all.new.source g.O.Sink c.args.out.now c.hand_out.new.out c.args.request.now words c.in-Ok.bytes.items (text_of_answer c.in-Ok-answer_request.answer)
+    run_write_fault g.S.Source c.args.source.now c.read_all.new.source g.O.Sink c.args.out.now c.hand_out.new.out c.args.request.now words c.in-Ok.bytes.items (text_of_answer c.in-Ok-answer_request.answer) (is_no c.in-Ok-answer_request.answer)
     some c.in-Ok.ensures.whole c.in-Ok.ensures.end c.read_all.ensures.later c.hand_out.ensures.cause.later (rw c.deref.ensures.value at c.in-Ok-answer_request.ensures.made) c.in-Err.ensures.cause.failed
     (c.hand_out.ensures.grows, c.hand_out.ensures.front)
 
