@@ -18,4 +18,7 @@ pub use running::run;
 pub use status::Status;
 
 #[cfg(test)]
+mod checks;
+
+#[cfg(test)]
 mod tests;

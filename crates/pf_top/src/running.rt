@@ -23,16 +23,14 @@ use std::alloc::Global;
 const LIMIT: usize = 1 << 29;
 
 // The answer to `check`.
-fn write_verdict<O: Sink>(printer: &mut Printer<'_, O>, holds: bool) -> Result<(), Failed>
-    requires { is_spent printer.old ≡ false }
-    ensures { Adds printer.old printer.new (verdict_text holds) result }
+fn verdict_bytes(holds: bool) -> &'static [u8]
+    ensures { result.now ≡ verdict_text holds }
 {
     if holds {
-        printer.word(b"o check\nyes\nend\n")?;
-        return Ok(());
+        b"o check\nyes\nend\n"
+    } else {
+        b"o check\nno\nend\n"
     }
-    printer.word(b"o check\nno\nend\n")?;
-    Ok(())
 }
 
 // Prints the answer.
@@ -44,7 +42,7 @@ fn print<O: Sink>(printer: &mut Printer<'_, O>, answer: &Answer) -> Result<(), F
     match answer {
         Answer::AtPoint(net, point) => write_at(printer, net, point),
         Answer::WholeCurve(net, curve) => write_curve(printer, net, curve),
-        Answer::Verdict(holds) => write_verdict(printer, *holds),
+        Answer::Verdict(holds) => printer.word(verdict_bytes(*holds)),
     }
 }
 

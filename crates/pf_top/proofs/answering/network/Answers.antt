@@ -17,4 +17,4 @@ returns-in-None-clause-read c =
 pub returns-in-Some-clause-refused : goal.returns-in-Some-clause-refused
 returns-in-Some-clause-refused c = λ refusal e command plain.
     network_followed c.args.bytes.now c.new-lines.result c.read_network.new.lines c.in_ok-net.net c.in-Some.line _ refusal command c.requires.short c.new-lines.ensures
-    c.in_ok-net.ensures.read c.in-Some.ensures.given cc plain
+    c.in_ok-net.ensures.read c.in-Some.ensures.given (cc) plain
