@@ -1,12 +1,13 @@
 -- Verdicts on texts of curves.
 use Rattle.std.proofs.Common.{◌≡◌, ℕ, Bool, true, false, List, refl, sym, ap, subst, ◌∙◌}
 use Rattle.std.specs.Prelude.{◌↔◌, not}
-use Rattle.pf_model.specs.Network.{Network}
+use Rattle.pf_model.specs.Network.{Network, IsMonotone}
 use Rattle.pf_model.specs.Curve.{CertifiesCurve}
 use Rattle.pf_model.specs.Answer.{Curve, IsCurveShape}
+use Rattle.pf_model.proofs.Certificate.{certified_is_curve}
 use Rattle.pf_text.specs.Answers.{curve_text, verdict_text}
 use Rattle.pf_text.specs.Asked.{check_curve}
-use Rattle.pf_text.specs.Right.{IsRightCheck, SaysNo}
+use Rattle.pf_text.specs.Right.{IsRightCurve, IsCertifiedCurve, IsRightCheck, SaysNo}
 use Rattle.pf_text.proofs.SameAnswers.{same_verdict}
 use Rattle.pf_text.proofs.SameCurves.{same_curve}
 
@@ -47,3 +48,16 @@ one_verdict net rest text other a b =
 pub verdict_says_no : (holds : Bool) → (not holds ≡ true) ↔ SaysNo check_curve (verdict_text holds)
 verdict_says_no true = (λ e. absurd cc, λ e. absurd (let same = same_verdict true false e in cc))
 verdict_says_no false = (λ e. refl, λ e. refl)
+
+-- the certificate is all that a right answer to `curve` has
+pub certified_is_right : (net : Network) (text : List ℕ) → IsMonotone net → IsCertifiedCurve net text ↔ IsRightCurve net text
+certified_is_right net text m = (
+  λ c. record {
+    curve = c.curve;
+    shape = c.shape;
+    best = certified_is_curve net c.curve.points c.curve.cuts c.curve.flows m c.certificate;
+    certificate = c.certificate;
+    text_is = c.text_is;
+  },
+  λ r. record { curve = r.curve; shape = r.shape; certificate = r.certificate; text_is = r.text_is },
+)

@@ -1,5 +1,5 @@
 -- What holds of every text.
-use Rattle.std.specs.Prelude.{◌≡◌, ℕ, ◌≤◌, Bool, List, length, All, pos, neg_ℤ, ◌≤ℤ◌, Ok}
+use Rattle.std.specs.Prelude.{◌≡◌, ◌↔◌, ℕ, ◌≤◌, Bool, List, length, All, pos, neg_ℤ, ◌≤ℤ◌, Ok}
 use Rattle.pf_model.specs.declared.AffineArc.{AffineArc}
 use Rattle.pf_model.specs.Fraction.{Fraction, IsParameter, IsLowest}
 use Rattle.pf_model.specs.Network.{Network, IsMonotone}
@@ -7,7 +7,7 @@ use Rattle.pf_model.specs.Answer.{Point, Curve, Row, IsPointShape, IsCurveShape,
 use Rattle.pf_text.specs.Kinds.{Accepted, problem_of}
 use Rattle.pf_text.specs.Par.{billion, par}
 use Rattle.pf_text.specs.Answers.{point_text, curve_text, sweep_text, verdict_text}
-use Rattle.pf_text.specs.Right.{IsRightCheck}
+use Rattle.pf_text.specs.Right.{IsRightCurve, IsCertifiedCurve, IsRightCheck}
 
 -- an end of an interval that a text gives, in lowest terms
 pub record IsTextFraction (x : Fraction) : Type 0 where
@@ -57,3 +57,7 @@ VerdictFromText = (a b : Bool) → verdict_text a ≡ verdict_text b → a ≡ b
 -- one of `yes` and `no` is the right verdict, and not the other
 abbrev pub VerdictIsUnique : Type 0
 VerdictIsUnique = (net : Network) (rest a b : List ℕ) → IsRightCheck net rest a → IsRightCheck net rest b → a ≡ b
+
+-- the verdict is `yes` for exactly the texts of right answers to `curve`
+abbrev pub CertifiedIsRight : Type 0
+CertifiedIsRight = (net : Network) (text : List ℕ) → IsMonotone net → IsCertifiedCurve net text ↔ IsRightCurve net text
