@@ -3,7 +3,7 @@ use Rattle.pf_curve.proofs.finder.write_point.Goals as goal
 
 pub reach-requires-clause-flow : goal.reach-requires-clause-flow
 reach-requires-clause-flow c =
-    within_found c.args.net.now c.frame-frame.result.now c.source.result c.write_flow.new.caps c.write_flow.new.flow c.frame-frame.ensures.frame c.write_flow.ensures.best
+    within_found c.args.net.now c.frame-frame.result.now _ c.write_flow.new.caps c.write_flow.new.flow c.frame-frame.ensures.frame c.write_flow.ensures.best
 
 pub returns-clause-point : goal.returns-clause-point
 returns-clause-point c =
