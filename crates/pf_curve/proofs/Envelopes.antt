@@ -162,18 +162,18 @@ fit {A} net right at line side parts each =
       found = λ i low. found_at net right at line side parts each i (omega (arith, low, pieces));
     }
 
--- the same, as the code calls it
-pub curve_of_parts : {A : Type 0} (net : Network) (right at : A → Fraction) (line : A → AffineLine) (side : A → List Bool) (parts first second : List A) (lo hi lo' : Fraction)
-    (points : List Fraction) (cuts : List (List Bool)) → IsMonotone net → lo ≡ net.low → hi ≡ net.high → lo' ≡ net.low → first ≡ parts → second ≡ parts →
-    All (λ p. IsCutFound net (at p) (line p) (side p)) parts →
-    IsLowerEnvelope (IsLineOfCut net) lo hi (map (λ p. record { right = right p; line = line p }) parts) →
-    points ≡ lo' ∷ map right first → cuts ≡ map side second → IsCurve net points cuts
-curve_of_parts {A} net right at line side parts first second lo hi lo' points cuts m is_lo is_hi is_lo' is_first is_second each env is_points is_cuts =
+-- the same, as the code calls it: the parts were found in the network `found`, which is this one
+pub curve_of_parts : {A : Type 0} (net found : Network) (right at : A → Fraction) (line : A → AffineLine) (side : A → List Bool) (parts listed : List A) (lo hi lo' : Fraction)
+    (points : List Fraction) (cuts : List (List Bool)) → IsMonotone net → found ≡ net → lo ≡ net.low → hi ≡ net.high → lo' ≡ net.low → listed ≡ parts →
+    All (λ p. IsCutFound found (at p) (line p) (side p)) parts →
+    IsLowerEnvelope (IsLineOfCut found) lo hi (map (λ p. record { right = right p; line = line p }) parts) →
+    points ≡ lo' ∷ map right listed → cuts ≡ map side parts → IsCurve net points cuts
+curve_of_parts {A} net found right at line side parts listed lo hi lo' points cuts m is_found is_lo is_hi is_lo' is_listed each env is_points is_cuts =
     let piece : A → Piece = λ p. record { right = right p; line = line p } in
-    let here : IsLowerEnvelope (IsLineOfCut net) net.low net.high (map piece parts) = rw (is_lo, is_hi) at env in
-    let e : points ≡ net.low ∷ map right parts = is_points ∙ rw (is_lo', is_first) refl in
-    let f : cuts ≡ map side parts = is_cuts ∙ ap (map side) is_second in
-    rw (e, f) (envelope_is_curve net (map piece parts) (net.low ∷ map right parts) (map side parts) m here (fit net right at line side parts each))
+    let parts_found : All (λ p. IsCutFound net (at p) (line p) (side p)) parts = rw is_found at each in
+    let here : IsLowerEnvelope (IsLineOfCut net) net.low net.high (map piece parts) = rw (is_found, is_lo, is_hi) at env in
+    let e : points ≡ net.low ∷ map right parts = is_points ∙ rw (is_lo', is_listed) refl in
+    rw (e, is_cuts) (envelope_is_curve net (map piece parts) (net.low ∷ map right parts) (map side parts) m here (fit net right at line side parts parts_found))
 
 pub all_inside : (net : Network) (points : List Fraction) (cuts : List (List Bool)) → IsMonotone net → IsCurve net points cuts → All (IsInInterval net) points
 all_inside net points cuts m c = λ i d low.

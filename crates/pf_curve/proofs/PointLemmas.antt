@@ -32,11 +32,18 @@ point_here net x caps flow side b inside e best reach =
     point_of_greatest net x side flow b.monotone inside (greatest_here net x caps flow e best) (reach_here net x caps flow side e reach)
 
 -- the same, as the code calls it
-pub point_found : (net : Network) (x : Fraction) (frame : Graph) (s t s' : ℕ) (caps flow : List ℤ) (side : List Bool) → IsBuilt net → IsInInterval net x →
-    frame ≡ graph_of net → s ≡ net.source → t ≡ net.sink → s' ≡ net.source → caps ≡ map (capacity_at x) net.arcs →
-    IsGreatest (network_of frame caps s t) flow → ((sink : ℕ) → IsReach (network_of frame caps s' sink) flow side) → IsPoint net x side flow
-point_found net x frame s t s' caps flow side b inside is_frame is_s is_t is_s' is_caps best reach =
-    point_here net x caps flow side b inside is_caps (rw (is_frame, is_s, is_t) at best) (rw (is_frame, is_s') at (reach net.sink))
+pub point_found : (net : Network) (x : Fraction) (frame : Graph) (s : ℕ) (caps flow : List ℤ) (side : List Bool) → IsBuilt net → IsInInterval net x →
+    frame ≡ graph_of net → s ≡ net.source → caps ≡ map (capacity_at x) net.arcs →
+    IsGreatest (network_of (graph_of net) caps net.source net.sink) flow → ((sink : ℕ) → IsReach (network_of frame caps s sink) flow side) → IsPoint net x side flow
+point_found net x frame s caps flow side b inside is_frame is_s is_caps best reach =
+    point_here net x caps flow side b inside is_caps best (rw (is_frame, is_s) at (reach net.sink))
+
+-- a greatest flow is within the capacities, whichever nodes are the source and the sink
+pub within_found : (net : Network) (frame : Graph) (s : ℕ) (caps flow : List ℤ) → frame ≡ graph_of net →
+    IsGreatest (network_of (graph_of net) caps net.source net.sink) flow → IsWithin (network_of frame caps s s) flow
+within_found net frame s caps flow is_frame best =
+    let within = best.flow_is.within in
+    rw is_frame (record { full = within.full; low = within.low; high = within.high })
 
 within_size : (x c : ℤ) → pos 0 ≤ℤ x → x ≤ℤ c → c <ℤ pos (2 ^ 104) → IsWithinSize (2 ^ 104) x
 within_size x c h k l = record { low = omega (arith, ints, h); high = omega (arith, ints, k, l) }

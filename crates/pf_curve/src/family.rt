@@ -2,15 +2,15 @@
 ghost use Rattle.std.specs.Prelude.{◌≡◌, List, Bool, length, IfOk};
 ghost use Rattle.pf_model.specs.Fraction.{Fraction};
 ghost use Rattle.pf_model.specs.Line.{AffineLine};
-ghost use Rattle.pf_model.specs.Network.{Network, IsInInterval, line_of};
+ghost use Rattle.pf_model.specs.Cut.{IsSmallestLeast};
+ghost use Rattle.pf_model.specs.Network.{Network, IsInInterval, line_of, network_at};
 ghost use Rattle.pf_model.proofs.Certificate.{at_most_trans};
 ghost use Rattle.pf_envelope.specs.Envelope.{IsLeastAt};
 ghost use Rattle.pf_curve.specs.Cuts.{IsCutFound, IsLineOfCut, IsServed};
 
-use crate::single::point_at;
+use crate::finder::Finder;
 use pf_envelope::Family;
 use pf_frame::NoMemory;
-use pf_net::Net;
 use pf_rat::{Line, Rat};
 use std::alloc::Global;
 
@@ -22,26 +22,39 @@ pub struct Cut {
     pub side: Vec<bool>,
 }
 
-/// The cuts of a network.
+/// The cuts of a network, and the room in which they are found.
 #[derive(Drop)]
 pub struct Cuts<'a> {
-    pub net: &'a Net,
+    pub finder: Finder<'a>,
+}
+
+// Writes the smallest least cut at a parameter of the interval, and tells its line. `side` is indexed by nodes.
+fn write_cut(finder: &mut Finder<'_>, at: &Rat, side: &mut [bool]) -> Line
+    requires inside { IsInInterval finder.old at.now }
+    requires nodes { length side.old ≡ finder.old.nodes }
+    ensures smallest { IsSmallestLeast (network_at finder.old at.now) side.new }
+    ensures line { result ≡ line_of finder.old side.new }
+    ensures same { finder.new ≡ finder.old }
+{
+    finder.write_cut(at, side);
+    finder.net().cut_line(side)
 }
 
 // The smallest least cut at a parameter of the interval.
-fn find_cut(alloc: Global, net: &Net, at: &Rat) -> Result<Cut, NoMemory>
-    requires { IsInInterval net.now at.now }
-    ensures found { IfOk result (λ m. IsCutFound net.now m.at m.line m.side.items) }
+fn find_cut(alloc: Global, finder: &mut Finder<'_>, at: &Rat) -> Result<Cut, NoMemory>
+    requires { IsInInterval finder.old at.now }
+    ensures found { IfOk result (λ m. IsCutFound finder.old m.at m.line m.side.items) }
     ensures parameter { IfOk result (λ m. m.at ≡ at.now) }
-    ensures least { IfOk result (λ m. IsLeastAt (IsLineOfCut net.now) m.line at.now) }
+    ensures least { IfOk result (λ m. IsLeastAt (IsLineOfCut finder.old) m.line at.now) }
+    ensures same { finder.new ≡ finder.old }
 {
-    let point = point_at(alloc, net, at)?;
-    let (at, side, _flow) = point.into_parts();
-    let line = net.cut_line(side.get());
+    let nodes = finder.net().frame().nodes() as usize;
+    let mut side = vec![in alloc; false; nodes]?;
+    let line = write_cut(finder, at, &mut side);
     Ok(Cut {
-        at,
+        at: *at,
         line,
-        side: side.into_vec(),
+        side,
     })
 }
 
@@ -50,7 +63,7 @@ impl<'a> Family for Cuts<'a> {
 
     ghost Subject = { Network };
 
-    ghost subject = { λ f. f.net.now };
+    ghost subject = { λ f. f.finder };
 
     ghost line_of = { λ s m. m.line };
 
@@ -67,7 +80,7 @@ impl<'a> Family for Cuts<'a> {
     }
 
     fn end(&mut self, alloc: Global, at: &Rat) -> Result<Cut, NoMemory> {
-        find_cut(alloc, self.net, at)
+        find_cut(alloc, &mut self.finder, at)
     }
 
     fn least(
@@ -81,7 +94,7 @@ impl<'a> Family for Cuts<'a> {
     ) -> Result<Cut, NoMemory> {
         let q = at.q();
         prove!(q >= 1);
-        find_cut(alloc, self.net, at)
+        find_cut(alloc, &mut self.finder, at)
     }
 
     fn twin(&self, alloc: Global, m: &Cut) -> Result<Cut, NoMemory> {

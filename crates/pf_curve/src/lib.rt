@@ -4,6 +4,7 @@
 
 mod curve;
 mod family;
+mod finder;
 mod point;
 mod single;
 #[cfg(test)]

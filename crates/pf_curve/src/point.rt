@@ -28,16 +28,6 @@ impl Point {
         Point { at, side, flow }
     }
 
-    /// The parameter, the side and the flow.
-    pub fn into_parts(self) -> (Rat, Side, Numbers)
-        ensures at { result.0 ≡ self.at }
-        ensures side { result.1 ≡ self.side }
-        ensures flow { result.2 ≡ self.flow }
-    {
-        let Point { at, side, flow } = self;
-        (at, side, flow)
-    }
-
     /// The parameter.
     pub fn at(&self) -> &Rat
         ensures { result.now ≡ self.now.at }

@@ -8,10 +8,10 @@ ghost use Rattle.pf_curve.specs.Flows.{AreGreatest};
 
 use crate::curve::{Curve, Points, Sides};
 use crate::family::{Cut, Cuts};
+use crate::finder::Finder;
 use pf_envelope::{Part, envelope};
 use pf_frame::{FlowTable, NoMemory, Side};
 use pf_net::Net;
-use pf_preflow::greatest;
 use pf_rat::Rat;
 use std::alloc::Global;
 
@@ -39,86 +39,61 @@ fn points_of(alloc: Global, lo: &Rat, parts: &[Part<Cut>]) -> Result<Points, NoM
     Ok(points)
 }
 
+// The side of the cut of a part.
+fn side_of(part: Part<Cut>) -> Vec<bool>
+    ensures { result ≡ part.member.side }
+{
+    let Part { right: _, member } = part;
+    let Cut {
+        at: _,
+        line: _,
+        side,
+    } = member;
+    side
+}
+
 // The cut of each part.
-fn cuts_of(alloc: Global, parts: &[Part<Cut>]) -> Result<Sides, NoMemory>
-    ensures { IfOk result (λ cuts. cuts ≡ map (λ p. p.member.side.items) parts.now) }
+fn cuts_of(alloc: Global, parts: Vec<Part<Cut>>) -> Result<Sides, NoMemory>
+    ensures { IfOk result (λ cuts. cuts ≡ map (λ p. p.member.side.items) parts.items) }
 {
     let mut cuts = Sides::new(alloc);
     'parts: for part in parts {
-        let side = Vec::from_slice(alloc, part.member.side.as_slice())?;
-        cuts.push(Side::from_vec(side))?;
+        cuts.push(Side::from_vec(side_of(part)))?;
     }
     Ok(cuts)
 }
 
-// Writes a greatest flow at a parameter of the interval.
-fn write_flow(
-    alloc: Global,
-    net: &Net,
-    at: &Rat,
-    caps: &mut [i128],
-    flow: &mut [i128],
-) -> Result<(), NoMemory>
-    requires inside { IsInInterval net.now at.now }
-    requires capacities { length caps.old ≡ length net.now.arcs }
-    requires numbers { length flow.old ≡ length net.now.arcs }
-    ensures greatest { IfOk result (λ _. IsGreatest (network_at net.now at.now) flow.new) }
-    ensures shape { IfOk result (λ _. IsFlowShape net.now flow.new) }
-{
-    let frame = net.frame();
-    net.caps_at(at, caps);
-    greatest(alloc, frame, caps, net.source(), net.sink(), flow)?;
-    Ok(())
-}
-
 // Writes a greatest flow at a point into its row.
-fn fill_row(
-    alloc: Global,
-    net: &Net,
-    at: &Rat,
-    caps: &mut [i128],
-    flows: &mut FlowTable,
-    i: usize,
-) -> Result<(), NoMemory>
-    requires inside { IsInInterval net.now at.now }
-    requires capacities { length caps.old ≡ length net.now.arcs }
+fn fill_row(finder: &mut Finder<'_>, at: &Rat, flows: &mut FlowTable, i: usize)
+    requires inside { IsInInterval finder.old at.now }
     requires row { i < length flows.old }
-    requires width { length (flow_at flows.old i) ≡ length net.now.arcs }
-    ensures { IfOk result (λ _. (flow : List ℤ) × (flows.new ≡ slice_set flows.old i flow) × IsGreatest (network_at net.now at.now) flow × IsFlowShape net.now flow) }
+    requires width { length (flow_at flows.old i) ≡ length finder.old.arcs }
+    ensures same { finder.new ≡ finder.old }
+    ensures filled { (flow : List ℤ) × (flows.new ≡ slice_set flows.old i flow) × IsGreatest (network_at finder.old at.now) flow × IsFlowShape finder.old flow }
 {
     let row = flows.row_mut(i);
-    write_flow(alloc, net, at, caps, row)?;
-    Ok(())
+    finder.write_flow(at, row);
 }
 
 // Writes a greatest flow at each point into its row.
-fn fill_rows(
-    alloc: Global,
-    net: &Net,
-    points: &[Rat],
-    caps: &mut [i128],
-    flows: &mut FlowTable,
-) -> Result<(), NoMemory>
-    requires inside { All (IsInInterval net.now) points.now }
-    requires capacities { length caps.old ≡ length net.now.arcs }
-    requires zeros { flows.old ≡ replicate (length points.now) (replicate (length net.now.arcs) (pos 0)) }
-    ensures { IfOk result (λ _. AreGreatest net.now points.now flows.new) }
+fn fill_rows(finder: &mut Finder<'_>, points: &[Rat], flows: &mut FlowTable)
+    requires inside { All (IsInInterval finder.old) points.now }
+    requires zeros { flows.old ≡ replicate (length points.now) (replicate (length finder.old.arcs) (pos 0)) }
+    ensures { AreGreatest finder.old points.now flows.new }
 {
     'points: for i in 0..points.len() {
-        fill_row(alloc, net, &points[i], caps, flows, i)?;
+        fill_row(finder, &points[i], flows, i);
     }
-    Ok(())
 }
 
 // A greatest flow at each point.
-fn flows_at(alloc: Global, net: &Net, points: &[Rat]) -> Result<FlowTable, NoMemory>
-    requires { All (IsInInterval net.now) points.now }
-    ensures { IfOk result (AreGreatest net.now points.now) }
+fn flows_at(alloc: Global, finder: &mut Finder<'_>, points: &[Rat]) -> Result<FlowTable, NoMemory>
+    requires { All (IsInInterval finder.old) points.now }
+    ensures { IfOk result (AreGreatest finder.old points.now) }
 {
-    let width = net.frame().arcs() as usize;
+    let width = finder.net().frame().arcs() as usize;
     let mut flows = FlowTable::make(alloc, points.len(), width)?;
-    let mut caps = vec![in alloc; 0i128; width]?;
-    fill_rows(alloc, net, points, &mut caps, &mut flows)?;
+    fill_rows(finder, points, &mut flows);
     Ok(flows)
 }
 
@@ -132,10 +107,11 @@ pub fn curve_of(alloc: Global, net: &Net) -> Result<Curve, NoMemory>
 {
     // It tells that the network is one.
     let _ = net.frame().nodes();
-    let mut family = Cuts { net };
+    let finder = Finder::make(alloc, net)?;
+    let mut family = Cuts { finder };
     let parts = envelope(alloc, &mut family, net.lo(), net.hi())?;
     let points = points_of(alloc, net.lo(), parts.as_slice())?;
-    let cuts = cuts_of(alloc, parts.as_slice())?;
-    let flows = flows_at(alloc, net, points.get())?;
+    let cuts = cuts_of(alloc, parts)?;
+    let flows = flows_at(alloc, &mut family.finder, points.get())?;
     Ok(Curve::new(points, cuts, flows))
 }

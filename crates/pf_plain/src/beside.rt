@@ -1,64 +1,68 @@
-// Augmenting paths beside pushes and relabels: flows of equal value, at the points of worked networks and on networks that a
-// fixed rule draws.
-ghost use Rattle.std.specs.Prelude.{◌≡◌, ◌<◌, length, true};
-ghost use Rattle.pf_model.specs.Fraction.{IsAtMost};
-ghost use Rattle.pf_model.specs.Network.{IsInInterval};
+// Augmenting paths beside pushes and relabels: flows of equal value at each point of a curve, for worked networks and for networks
+// that a fixed rule draws.
+ghost use Rattle.std.specs.Prelude.{◌≡◌, ◌<◌, length};
+ghost use Rattle.pf_model.specs.Curve.{CertifiesCurve};
+ghost use Rattle.pf_model.specs.Flow.{IsFlow};
+ghost use Rattle.pf_model.specs.Network.{IsInInterval, network_at};
 
+use pf_curve::{Curve, curve_of};
 use pf_frame::{NoMemory, value};
 use pf_net::{AffineArc, Net};
 use pf_rat::Rat;
 use std::alloc::Global;
-use std::cmp::Ordering;
 use std::test::Fail;
 
-fn is_at_most(x: &Rat, y: &Rat) -> bool
-    ensures { result ≡ true → IsAtMost x.now y.now }
-{
-    match x.cmp(y) {
-        Ordering::Less => true,
-        Ordering::Equal => true,
-        Ordering::Greater => false,
-    }
-}
-
-// Whether both find flows of equal value at the parameter.
+// Whether a flow found by paths has the value of the flow found by labels, at one parameter.
 fn values_agree(
     alloc: Global,
     net: &Net,
     at: &Rat,
+    labelled: &[i128],
     caps: &mut [i128],
     plain: &mut [i128],
-    labelled: &mut [i128],
 ) -> Result<bool, NoMemory>
     requires inside { IsInInterval net.now at.now }
+    requires labelled { IsFlow (network_at net.now at.now) labelled.now }
     requires caps { length caps.old ≡ length net.now.arcs }
     requires plain { length plain.old ≡ length net.now.arcs }
-    requires labelled { length labelled.old ≡ length net.now.arcs }
 {
     let frame = net.frame();
     let s = net.source();
-    let t = net.sink();
     net.caps_at(at, caps);
-    crate::greatest(alloc, frame, caps, s, t, plain)?;
-    pf_preflow::greatest(alloc, frame, caps, s, t, labelled)?;
+    crate::greatest(alloc, frame, caps, s, net.sink(), plain)?;
     Ok(value(frame, s, plain) == value(frame, s, labelled))
 }
 
-// The same with working room of its own. A parameter outside the interval does not agree.
-fn agree_at(alloc: Global, net: &Net, at: &Rat) -> Result<bool, NoMemory> {
-    let q = at.q();
-    prove!(q >= 1);
-    if !is_at_most(net.lo(), at) {
-        return Ok(false);
+// The same at each point of the network's curve.
+fn all_agree(
+    alloc: Global,
+    net: &Net,
+    curve: &Curve,
+    caps: &mut [i128],
+    plain: &mut [i128],
+) -> Result<bool, NoMemory>
+    requires curve { CertifiesCurve net.now curve.now.points curve.now.cuts curve.now.flows }
+    requires caps { length caps.old ≡ length net.now.arcs }
+    requires plain { length plain.old ≡ length net.now.arcs }
+{
+    // It tells that the network is one.
+    let _ = net.frame().nodes();
+    let points = curve.points();
+    'points: for i in 0..points.len() {
+        if !values_agree(alloc, net, &points[i], curve.flow(i), caps, plain)? {
+            return Ok(false);
+        }
     }
-    if !is_at_most(at, net.hi()) {
-        return Ok(false);
-    }
+    Ok(true)
+}
+
+// The same for the curve that is found, whose flows are found by labels.
+fn agree(alloc: Global, net: &Net) -> Result<bool, NoMemory> {
+    let curve = curve_of(alloc, net)?;
     let arcs = net.frame().arcs() as usize;
     let mut caps = vec![in alloc; 0i128; arcs]?;
     let mut plain = vec![in alloc; 0i128; arcs]?;
-    let mut labelled = vec![in alloc; 0i128; arcs]?;
-    values_agree(alloc, net, at, &mut caps, &mut plain, &mut labelled)
+    all_agree(alloc, net, &curve, &mut caps, &mut plain)
 }
 
 fn arc(tail: u32, head: u32, a: i64, b: i64) -> AffineArc {
@@ -74,9 +78,7 @@ fn two_equal_branches(rt: HostRuntime) -> Result<(), Fail> {
         arc(2, 3, 3, 0),
     ];
     let net = Net::build(rt.alloc(), 4, 0, 3, Rat::new(0, 1), Rat::new(5, 1), &arcs)?;
-    assert!(rt; agree_at(rt.alloc(), &net, &Rat::new(0, 1))?);
-    assert!(rt; agree_at(rt.alloc(), &net, &Rat::new(3, 1))?);
-    assert!(rt; agree_at(rt.alloc(), &net, &Rat::new(5, 1))?);
+    assert!(rt; agree(rt.alloc(), &net)?);
     Ok(())
 }
 
@@ -92,9 +94,7 @@ fn the_largest_coefficients(rt: HostRuntime) -> Result<(), Fail> {
         Rat::new(1000000000, 1),
         &arcs,
     )?;
-    assert!(rt; agree_at(rt.alloc(), &net, &Rat::new(0, 1))?);
-    assert!(rt; agree_at(rt.alloc(), &net, &Rat::new(1, 1))?);
-    assert!(rt; agree_at(rt.alloc(), &net, &Rat::new(1000000000, 1))?);
+    assert!(rt; agree(rt.alloc(), &net)?);
     Ok(())
 }
 
@@ -110,10 +110,7 @@ fn two_breakpoints(rt: HostRuntime) -> Result<(), Fail> {
         arc(2, 4, 3, 0),
     ];
     let net = Net::build(rt.alloc(), 5, 0, 4, Rat::new(0, 1), Rat::new(8, 1), &arcs)?;
-    assert!(rt; agree_at(rt.alloc(), &net, &Rat::new(0, 1))?);
-    assert!(rt; agree_at(rt.alloc(), &net, &Rat::new(10, 3))?);
-    assert!(rt; agree_at(rt.alloc(), &net, &Rat::new(5, 1))?);
-    assert!(rt; agree_at(rt.alloc(), &net, &Rat::new(8, 1))?);
+    assert!(rt; agree(rt.alloc(), &net)?);
     Ok(())
 }
 
@@ -142,7 +139,7 @@ fn drawn(x: u64) -> AffineArc
     arc(tail, head, constant, 0)
 }
 
-// A network of six nodes and sixteen arcs, and a parameter.
+// A network of six nodes and sixteen arcs.
 fn agrees_for(alloc: Global, seed: u64) -> Result<bool, Fail>
     requires { seed < 2147483647 }
 {
@@ -153,8 +150,7 @@ fn agrees_for(alloc: Global, seed: u64) -> Result<bool, Fail>
         x = next(x);
     }
     let net = Net::build(alloc, 6, 0, 5, Rat::new(0, 1), Rat::new(10, 1), &arcs)?;
-    let at = Rat::new((x % 31) as i128, 4);
-    Ok(agree_at(alloc, &net, &at)?)
+    Ok(agree(alloc, &net)?)
 }
 
 #[test]

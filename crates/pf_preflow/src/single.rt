@@ -1,4 +1,4 @@
-// One greatest flow, for a caller that keeps no engine and counts no steps.
+// One greatest flow, for a caller that counts no steps.
 ghost use Rattle.std.specs.Prelude.{◌≡◌, ◌≢◌, ◌<◌, length, IfOk, OnErr};
 ghost use Rattle.pf_model.specs.Flow.{IsGreatest};
 ghost use Rattle.pf_model.specs.Graph.{network_of};
@@ -26,12 +26,27 @@ fn send<L: Ledger>(
     requires frame { IsFor engine.old frame.now }
     requires caps { IsBounded frame.now caps.now }
     requires flow { length flow.old ≡ length frame.now.ends }
-    ensures greatest { IsGreatest (network_of frame.now caps.now engine.old.source engine.old.sink) flow.new }
+    ensures greatest { IsGreatest (network engine.old frame.now caps.now) flow.new }
+    ensures ends { KeepsEnds engine.old engine.new }
 {
     let (book, share) = blank.open::<L>();
     let mut steps = Steps::new(book, share);
     engine.start(frame, caps, flow);
     engine.run(frame, caps, flow, &mut steps);
+}
+
+impl Engine {
+    /// Leaves in `flow` a flow from the engine's source to its sink whose value no flow exceeds, whatever stood there: `start`, and
+    /// then `run` with a counter that nobody reads. `caps` and `flow` are indexed by arcs, in one unit. It takes no memory.
+    pub fn find(&mut self, frame: &Frame, caps: &[i128], flow: &mut [i128])
+        requires frame { IsFor self.old frame.now }
+        requires caps { IsBounded frame.now caps.now }
+        requires flow { length flow.old ≡ length frame.now.ends }
+        ensures greatest { IsGreatest (network self.old frame.now caps.now) flow.new }
+        ensures ends { KeepsEnds self.old self.new }
+    {
+        send::<Brand>(self, frame, caps, flow, Blank::new(1));
+    }
 }
 
 /// Leaves in `flow` a flow from `s` to `t` whose value no flow exceeds, whatever stood there. `caps` and `flow` are indexed by
@@ -53,6 +68,6 @@ pub fn greatest(
     ensures unchanged { OnErr result (flow.new ≡ flow.old) }
 {
     let mut engine = Engine::make(alloc, frame, s, t)?;
-    send::<Brand>(&mut engine, frame, caps, flow, Blank::new(1));
+    engine.find(frame, caps, flow);
     Ok(())
 }

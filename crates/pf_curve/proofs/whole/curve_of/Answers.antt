@@ -13,19 +13,19 @@ pub envelope-requires-clause-interval : goal.envelope-requires-clause-interval
 envelope-requires-clause-interval c = rw (c.lo.ensures, c.hi.ensures) c.frame.ensures.built.monotone.interval
 
 pub envelope-requires-clause-low_served : goal.envelope-requires-clause-low_served
-envelope-requires-clause-low_served c = end_served c.args.net.now c.lo.result.now c.frame.ensures.built.monotone c.lo.ensures
+envelope-requires-clause-low_served c = rw c.in_ok-finder.ensures (end_served c.args.net.now c.lo.result.now c.frame.ensures.built.monotone c.lo.ensures)
 
 pub envelope-requires-clause-high_served : goal.envelope-requires-clause-high_served
-envelope-requires-clause-high_served c = high_end_served c.args.net.now c.hi.result.now c.frame.ensures.built.monotone c.hi.ensures
+envelope-requires-clause-high_served c = rw c.in_ok-finder.ensures (high_end_served c.args.net.now c.hi.result.now c.frame.ensures.built.monotone c.hi.ensures)
 
 pub flows_at-requires : goal.flows_at-requires
 flows_at-requires c =
     let m = c.frame.ensures.built.monotone in
-    let curve = curve_of_parts c.args.net.now (λ p. p.right) (λ p. p.member.at) (λ p. p.member.line) (λ p. p.member.side.items) c.in_ok-parts.parts.items
-    c.as_slice.result.now c.as_slice-2.result.now c.lo.result.now c.hi.result.now c.lo-2.result.now c.in_ok-points.points c.in_ok-cuts.cuts m
-    c.lo.ensures c.hi.ensures c.lo-2.ensures c.as_slice.ensures.value c.as_slice-2.ensures.value c.in_ok-parts.ensures.members c.in_ok-parts.ensures.envelope
+    let curve = curve_of_parts c.args.net.now c.in_ok-finder.finder (λ p. p.right) (λ p. p.member.at) (λ p. p.member.line) (λ p. p.member.side.items) c.in_ok-parts.parts.items
+    c.as_slice.result.now c.lo.result.now c.hi.result.now c.lo-2.result.now c.in_ok-points.points c.in_ok-cuts.cuts m
+    c.in_ok-finder.ensures c.lo.ensures c.hi.ensures c.lo-2.ensures c.as_slice.ensures.value c.in_ok-parts.ensures.members c.in_ok-parts.ensures.envelope
     c.in_ok-points.ensures.points c.in_ok-cuts.ensures in
-    rw c.get.ensures (all_inside c.args.net.now c.in_ok-points.points c.in_ok-cuts.cuts m curve)
+    rw (c.envelope.ensures.same, c.in_ok-finder.ensures, c.get.ensures) (all_inside c.args.net.now c.in_ok-points.points c.in_ok-cuts.cuts m curve)
 
 curve_made : (net : Network) (points : List Fraction) (cuts : List (List Bool)) (flows : List (List ℤ)) (made : Curve) →
     made ≡ record { points = points; cuts = cuts; flows = flows } → IsCurve net points cuts → IsCurve net made.points made.cuts
@@ -48,28 +48,28 @@ shape_made net points got cuts flows made e h shape same best =
 pub returns-clause-curve : goal.returns-clause-curve
 returns-clause-curve c =
     let m = c.frame.ensures.built.monotone in
-    let curve = curve_of_parts c.args.net.now (λ p. p.right) (λ p. p.member.at) (λ p. p.member.line) (λ p. p.member.side.items) c.in_ok-parts.parts.items
-    c.as_slice.result.now c.as_slice-2.result.now c.lo.result.now c.hi.result.now c.lo-2.result.now c.in_ok-points.points c.in_ok-cuts.cuts m
-    c.lo.ensures c.hi.ensures c.lo-2.ensures c.as_slice.ensures.value c.as_slice-2.ensures.value c.in_ok-parts.ensures.members c.in_ok-parts.ensures.envelope
+    let curve = curve_of_parts c.args.net.now c.in_ok-finder.finder (λ p. p.right) (λ p. p.member.at) (λ p. p.member.line) (λ p. p.member.side.items) c.in_ok-parts.parts.items
+    c.as_slice.result.now c.lo.result.now c.hi.result.now c.lo-2.result.now c.in_ok-points.points c.in_ok-cuts.cuts m
+    c.in_ok-finder.ensures c.lo.ensures c.hi.ensures c.lo-2.ensures c.as_slice.ensures.value c.in_ok-parts.ensures.members c.in_ok-parts.ensures.envelope
     c.in_ok-points.ensures.points c.in_ok-cuts.ensures in
     curve_made c.args.net.now c.in_ok-points.points c.in_ok-cuts.cuts c.in_ok-flows.flows c.new.result c.new.ensures curve
 
 pub returns-clause-certificate : goal.returns-clause-certificate
 returns-clause-certificate c =
     let m = c.frame.ensures.built.monotone in
-    let curve = curve_of_parts c.args.net.now (λ p. p.right) (λ p. p.member.at) (λ p. p.member.line) (λ p. p.member.side.items) c.in_ok-parts.parts.items
-    c.as_slice.result.now c.as_slice-2.result.now c.lo.result.now c.hi.result.now c.lo-2.result.now c.in_ok-points.points c.in_ok-cuts.cuts m
-    c.lo.ensures c.hi.ensures c.lo-2.ensures c.as_slice.ensures.value c.as_slice-2.ensures.value c.in_ok-parts.ensures.members c.in_ok-parts.ensures.envelope
+    let curve = curve_of_parts c.args.net.now c.in_ok-finder.finder (λ p. p.right) (λ p. p.member.at) (λ p. p.member.line) (λ p. p.member.side.items) c.in_ok-parts.parts.items
+    c.as_slice.result.now c.lo.result.now c.hi.result.now c.lo-2.result.now c.in_ok-points.points c.in_ok-cuts.cuts m
+    c.in_ok-finder.ensures c.lo.ensures c.hi.ensures c.lo-2.ensures c.as_slice.ensures.value c.in_ok-parts.ensures.members c.in_ok-parts.ensures.envelope
     c.in_ok-points.ensures.points c.in_ok-cuts.ensures in
     certificate_made c.args.net.now c.in_ok-points.points c.get.result.now c.in_ok-cuts.cuts c.in_ok-flows.flows c.new.result c.new.ensures m curve c.get.ensures
-    c.in_ok-flows.ensures
+    (rw (c.envelope.ensures.same, c.in_ok-finder.ensures) at c.in_ok-flows.ensures)
 
 pub returns-clause-shape : goal.returns-clause-shape
 returns-clause-shape c =
     let m = c.frame.ensures.built.monotone in
-    let curve = curve_of_parts c.args.net.now (λ p. p.right) (λ p. p.member.at) (λ p. p.member.line) (λ p. p.member.side.items) c.in_ok-parts.parts.items
-    c.as_slice.result.now c.as_slice-2.result.now c.lo.result.now c.hi.result.now c.lo-2.result.now c.in_ok-points.points c.in_ok-cuts.cuts m
-    c.lo.ensures c.hi.ensures c.lo-2.ensures c.as_slice.ensures.value c.as_slice-2.ensures.value c.in_ok-parts.ensures.members c.in_ok-parts.ensures.envelope
+    let curve = curve_of_parts c.args.net.now c.in_ok-finder.finder (λ p. p.right) (λ p. p.member.at) (λ p. p.member.line) (λ p. p.member.side.items) c.in_ok-parts.parts.items
+    c.as_slice.result.now c.lo.result.now c.hi.result.now c.lo-2.result.now c.in_ok-points.points c.in_ok-cuts.cuts m
+    c.in_ok-finder.ensures c.lo.ensures c.hi.ensures c.lo-2.ensures c.as_slice.ensures.value c.in_ok-parts.ensures.members c.in_ok-parts.ensures.envelope
     c.in_ok-points.ensures.points c.in_ok-cuts.ensures in
     shape_made c.args.net.now c.in_ok-points.points c.get.result.now c.in_ok-cuts.cuts c.in_ok-flows.flows c.new.result c.new.ensures curve
-    c.in_ok-points.ensures.shape c.get.ensures c.in_ok-flows.ensures
+    c.in_ok-points.ensures.shape c.get.ensures (rw (c.envelope.ensures.same, c.in_ok-finder.ensures) at c.in_ok-flows.ensures)

@@ -8,18 +8,22 @@ use Rattle.pf_curve.proofs.Filling.{filling_begins, filling_goes_on, filling_end
 use Rattle.pf_curve.proofs.whole.fill_rows.Goals as goal
 
 pub points-init : goal.points-init
-points-init c = filling_begins c.args.net.now c.args.points.now _ c.args.flows.now refl c.requires.zeros
+points-init c = record { same = refl; filled = filling_begins c.args.finder.now c.args.points.now _ c.args.flows.now refl c.requires.zeros }
 
 pub points-preserved : goal.points-preserved
 points-preserved c =
-    let net = c.args.net.now in
+    let net = c.args.finder.now in
     let points = c.args.points.now in
-    let filled = c.in_ok-fill_row.ensures in
+    let before = c.points.invariant.filled in
+    let row = rw c.points.invariant.same at c.fill_row.ensures.filled in
     let e : point_at net points c.points.i ≡ c.index-points-i.result =
     get_or_default points c.points.i net.low c.index-points-i.result c.points-test.true ∙ sym c.index-points-i.is in
-    let P : Fraction → Type 0 = λ x. IsGreatest (network_at net x) filled.0 in
-    filling_goes_on net points c.points.i c.points.flows c.fill_row.new.flows filled.0 c.points.invariant
-    (omega (arith, c.points.invariant.count)) filled.1 (subst P (sym e) filled.2) filled.3
+    let P : Fraction → Type 0 = λ x. IsGreatest (network_at net x) row.0 in
+    record {
+      same = c.fill_row.ensures.same ∙ c.points.invariant.same;
+      filled = filling_goes_on net points c.points.i c.points.flows c.fill_row.new.flows row.0 before
+          (omega (arith, before.count)) row.1 (subst P (sym e) row.2) row.3;
+    }
 
 pub returns : goal.returns
-returns c = filling_ends c.args.net.now c.args.points.now c.points.i c.points.flows c.points.invariant c.points-test.false
+returns c = filling_ends c.args.finder.now c.args.points.now c.points.i c.points.flows c.points.invariant.filled c.points-test.false

@@ -3,7 +3,7 @@ use Rattle.pf_curve.proofs.family.CutsFamily.least.Goals as goal
 
 pub find_cut-requires : goal.find_cut-requires
 find_cut-requires c =
-    let net = c.args.self.now.net.now in
+    let net = c.args.self.now.finder in
     let left = c.requires.left_served in
     let right = c.requires.right_served in
     let parameter = c.q-q.ensures.bounds.parameter in
