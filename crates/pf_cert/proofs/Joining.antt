@@ -29,12 +29,6 @@ joined net points cuts flows rising count d c s f k = record {
   slopes = s;
 }
 
-pub cuts_of : (net : Network) (points : List Fraction) (cuts : List (List Bool)) (flows : List (List ℤ)) → CertifiesCurve net points cuts flows → AreCuts net cuts
-cuts_of net points cuts flows c = record { each = c.cut }
-
-pub flows_of : (net : Network) (points : List Fraction) (cuts : List (List Bool)) (flows : List (List ℤ)) → CertifiesCurve net points cuts flows → AreFlows net points flows
-flows_of net points cuts flows c = record { each = c.flow_is }
-
 pub parts_of : (net : Network) (points : List Fraction) (cuts : List (List Bool)) (flows : List (List ℤ)) → net.sense ≡ Rising →
     CertifiesCurve net points cuts flows → CertifiesCuts net points cuts flows
 parts_of net points cuts flows rising c = record {

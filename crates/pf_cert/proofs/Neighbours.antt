@@ -98,18 +98,3 @@ rise_of net points cuts d = record {
       subst P (get_or_default points i net.low e (omega arith))
       (subst Q (get_or_default points (i + 1) net.low e low) (d.rise i (omega arith)));
 }
-
-pub first_of : (net : Network) (points : List Fraction) (cuts : List (List Bool)) (first : Fraction) → IsDivision net points cuts → first ≡ get_or points 0 first → IsEqual first net.low
-first_of net points cuts first d is_first =
-    let count = d.count in
-    let at_first : first ≡ point_at net points 0 = is_first ∙ get_or_default points 0 first net.low (omega arith) in
-    let P : Fraction → Type 0 = λ x. IsEqual x net.low in
-    subst P (sym at_first) d.low
-
-pub last_of : (net : Network) (points : List Fraction) (cuts : List (List Bool)) (last : Fraction) → IsDivision net points cuts → last ≡ get_or points (length cuts) last →
-    IsEqual last net.high
-last_of net points cuts last d is_last =
-    let count = d.count in
-    let at_last : last ≡ point_at net points (length cuts) = is_last ∙ get_or_default points (length cuts) last net.low (omega arith) in
-    let P : Fraction → Type 0 = λ x. IsEqual x net.high in
-    subst P (sym at_last) d.high

@@ -1,5 +1,5 @@
 -- What the code has computed at a point, in the words of the definitions.
-use Rattle.std.proofs.Common.{◌≡◌, ℕ, ◌+◌, ◌<◌, List, length, map, get_or, Bool, ap, sym, ◌∙◌, subst}
+use Rattle.std.proofs.Common.{◌≡◌, ℕ, ◌+◌, ◌<◌, List, length, map, get_or, Bool, arith, ap, sym, ◌∙◌, subst}
 use Rattle.std.specs.Prelude.{ℤ}
 use Rattle.std.proofs.lemmas.List.{get_or_default}
 use Rattle.pf_model.specs.Fraction.{Fraction}
@@ -8,9 +8,10 @@ use Rattle.pf_model.specs.Cut.{capacity}
 use Rattle.pf_model.specs.Flow.{IsFlow, flow_value, value}
 use Rattle.pf_model.specs.Graph.{Graph, network_of}
 use Rattle.pf_model.specs.Residual.{IsReach}
-use Rattle.pf_model.specs.Network.{Network, network_at, capacity_at, line_of}
-use Rattle.pf_model.specs.Curve.{point_at, cut_at, flow_at}
+use Rattle.pf_model.specs.Network.{Network, IsMonotone, IsInInterval, network_at, capacity_at, line_of}
+use Rattle.pf_model.specs.Curve.{IsDivision, point_at}
 use Rattle.pf_model.proofs.Affine.{capacity_of_line}
+use Rattle.pf_model.proofs.Certificate.{point_inside}
 use Rattle.pf_frame.specs.Numbers.{IsBounded}
 use Rattle.pf_net.specs.Limits.{graph_of}
 
@@ -18,6 +19,13 @@ use Rattle.pf_net.specs.Limits.{graph_of}
 pub point_here : (net : Network) (points shown : List Fraction) (j : ℕ) (x : Fraction) → shown ≡ points → j < length shown → x ≡ get_or shown j x → x ≡ point_at net points j
 point_here net points shown j x same low is_x =
     is_x ∙ get_or_default shown j x net.low low ∙ ap (λ (l : List Fraction). point_at net l j) same
+
+-- it lies in the interval
+pub inside_here : (net : Network) (points shown : List Fraction) (cuts : List (List Bool)) (j : ℕ) (x : Fraction) → IsMonotone net → IsDivision net points cuts →
+    shown ≡ points → j < length shown → x ≡ get_or shown j x → IsInInterval net x
+inside_here net points shown cuts j x m d same low is_x =
+    let P : Fraction → Type 0 = λ y. IsInInterval net y in
+    subst P (sym (point_here net points shown j x same low is_x)) (point_inside net points cuts m d j (omega (arith, low, ap length same, d.count)))
 
 pub value_here : (net : Network) (x : Fraction) (frame : Graph) (s : ℕ) (shown flow : List ℤ) (sent : ℤ) → frame ≡ graph_of net → s ≡ net.source → shown ≡ flow →
     sent ≡ flow_value frame.ends shown s → sent ≡ value (network_at net x) flow

@@ -24,15 +24,16 @@ pub record AreFlows (net : Network) (points : List Fraction) (flows : List (List
 pub record AreBounded (g : Graph) (flows : List (List ℤ)) : Type 0 where
   pub each : (j : ℕ) → j < length flows → IsBounded g (flow_at flows j)
 
--- cut i is what the residual graph of the flow at point i + 1 reaches from the source
-abbrev pub IsReached : Network → List Fraction → List (List Bool) → List (List ℤ) → ℕ → Type 0
-IsReached net points cuts flows i = IsReach (network_at net (point_at net points (i + 1))) (flow_at flows (i + 1)) (cut_at cuts i)
+-- cut i is what the residual graph of flow j reaches from the source, at point j
+abbrev pub IsReached : Network → List Fraction → List (List Bool) → List (List ℤ) → ℕ → ℕ → Type 0
+IsReached net points cuts flows j i = IsReach (network_at net (point_at net points j)) (flow_at flows j) (cut_at cuts i)
 
--- the flows at both ends of cut i have its capacity as their values, and the flow at its right end reaches exactly it
+-- the flows at the left and at the right point of cut i have its capacity there as their values, and the flow at the right one reaches exactly it
 pub record CertifiesCut (net : Network) (points : List Fraction) (cuts : List (List Bool)) (flows : List (List ℤ)) (i : ℕ) : Type 0 where
   pub left : Meets net points cuts flows i i
   pub right : Meets net points cuts flows (i + 1) i
-  pub reach : IsReached net points cuts flows i
+  pub reach : IsReached net points cuts flows (i + 1) i
 
+-- so is each cut certified
 pub record CertifiesCuts (net : Network) (points : List Fraction) (cuts : List (List Bool)) (flows : List (List ℤ)) : Type 0 where
   pub each : (i : ℕ) → i < length cuts → CertifiesCut net points cuts flows i

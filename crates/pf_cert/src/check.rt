@@ -37,35 +37,36 @@ fn is_same_side(first: &[bool], second: &[bool]) -> bool
     first == second
 }
 
-// Whether cut `i` is exactly what the residual graph of the flow at its right point reaches from the source. `caps` and `side`
+// Whether cut `i` is exactly what the residual graph of the flow at point `j` reaches from the source there. `caps` and `side`
 // are working room, with one place per arc and one per node.
 fn is_reached(
     net: &Net,
     curve: &Curve,
+    j: usize,
     i: usize,
     scratch: &mut Scratch,
     caps: &mut [i128],
     side: &mut [bool],
 ) -> bool
+    requires point { j < length curve.now.points }
     requires place { i < length curve.now.cuts }
-    requires inside { IsInInterval net.now (point_at net.now curve.now.points (i + 1)) }
-    requires cut { IsNetworkCut net.now (cut_at curve.now.cuts i) }
+    requires division { IsDivision net.now curve.now.points curve.now.cuts }
     requires flows { AreFlows net.now curve.now.points curve.now.flows }
     requires room { Serves scratch.old net.now.nodes (length net.now.arcs) }
     requires capacities { length caps.old ≡ length net.now.arcs }
     requires nodes { length side.old ≡ net.now.nodes }
-    ensures exact { IsTrue result ↔ IsReached net.now curve.now.points curve.now.cuts curve.now.flows i }
+    ensures exact { IsTrue result ↔ IsReached net.now curve.now.points curve.now.cuts curve.now.flows j i }
     ensures places { KeepsPlaces scratch.old scratch.new }
 {
     let points = curve.points();
     let frame = net.frame();
-    let flow = curve.flow(i + 1);
-    net.caps_at(&points[i + 1], caps);
+    let flow = curve.flow(j);
+    net.caps_at(&points[j], caps);
     reach(frame, caps, flow, net.source(), scratch, side);
     is_same_side(side, curve.cut(i))
 }
 
-// Whether cut `i` is certified by the flows at its two points.
+// Whether cut `i` is certified by the flows at its left and its right point.
 fn certifies_cut(
     net: &Net,
     curve: &Curve,
@@ -85,16 +86,15 @@ fn certifies_cut(
     ensures exact { IsTrue result ↔ CertifiesCut net.now curve.now.points curve.now.cuts curve.now.flows i }
     ensures places { KeepsPlaces scratch.old scratch.new }
 {
-    // They tell the numbers of points and flows, and that the network is one.
+    // It tells the numbers of points and flows.
     let _ = curve.points();
-    let _ = net.frame();
     if !meets(net, curve, i, i) {
         return false;
     }
     if !meets(net, curve, i + 1, i) {
         return false;
     }
-    is_reached(net, curve, i, scratch, caps, side)
+    is_reached(net, curve, i + 1, i, scratch, caps, side)
 }
 
 // Whether each cut is certified.

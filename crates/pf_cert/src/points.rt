@@ -32,6 +32,16 @@ fn is_equal(x: &Rat, y: &Rat) -> bool
     }
 }
 
+// Whether the first fraction is equal to `lo`, and the last one to `hi`.
+fn is_span(first: &Rat, last: &Rat, lo: &Rat, hi: &Rat) -> bool
+    ensures { IsTrue result ↔ (IsEqual first.now lo.now × IsEqual last.now hi.now) }
+{
+    if !is_equal(first, lo) {
+        return false;
+    }
+    is_equal(last, hi)
+}
+
 // Each fraction has a denominator of at least 1.
 fn tell_parameters(points: &[Rat])
     ensures { All IsParameter points.now }
@@ -64,10 +74,7 @@ pub fn is_division(net: &Net, curve: &Curve) -> bool
     if last == 0 {
         return false;
     }
-    if !is_equal(&points[0], net.lo()) {
-        return false;
-    }
-    if !is_equal(&points[last], net.hi()) {
+    if !is_span(&points[0], &points[last], net.lo(), net.hi()) {
         return false;
     }
     rise(points)

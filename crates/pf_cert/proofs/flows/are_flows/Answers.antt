@@ -1,25 +1,18 @@
 use Rattle.std.proofs.Common.{◌≡◌, length, arith, refl, ap, sym, subst, below_more}
 use Rattle.std.proofs.lemmas.Bool.{false≢true}
-use Rattle.pf_model.specs.Fraction.{Fraction}
 use Rattle.pf_model.specs.Flow.{IsFlow}
-use Rattle.pf_model.specs.Network.{IsInInterval, network_at}
+use Rattle.pf_model.specs.Network.{network_at}
 use Rattle.pf_model.specs.Curve.{point_at, flow_at}
-use Rattle.pf_model.proofs.Certificate.{point_inside}
 use Rattle.pf_frame.specs.Numbers.{IsBounded}
 use Rattle.pf_net.specs.Limits.{graph_of}
 use Rattle.pf_cert.proofs.Places.{keeps_again, serves_on}
-use Rattle.pf_cert.proofs.Seen.{point_here, flow_here, flow_there, bounded_here}
+use Rattle.pf_cert.proofs.Seen.{point_here, inside_here, flow_here, flow_there, bounded_here}
 use Rattle.pf_cert.proofs.flows.are_flows.Goals as goal
 
 pub has_flow-requires-clause-inside : goal.has_flow-requires-clause-inside
 has_flow-requires-clause-inside c =
-    let net = c.args.net.now in
-    let points = c.args.curve.now.points in
-    let cuts = c.args.curve.now.cuts in
-    let shown = c.points-points.ensures.points in
-    let e = point_here net points c.points-points.result.now c.points.j c.index-points-j.result shown c.points-test.true c.index-points-j.is in
-    let P : Fraction → Type 0 = λ x. IsInInterval net x in
-    subst P (sym e) (point_inside net points cuts c.frame.ensures.built.monotone c.requires.division c.points.j (omega (arith, ap length shown, c.points-test.true)))
+    inside_here c.args.net.now c.args.curve.now.points c.points-points.result.now c.args.curve.now.cuts c.points.j c.index-points-j.result c.frame.ensures.built.monotone
+    c.requires.division c.points-points.ensures.points c.points-test.true c.index-points-j.is
 
 pub has_flow-requires-clause-room : goal.has_flow-requires-clause-room
 has_flow-requires-clause-room c = serves_on _ _ _ _ c.requires.room c.points.invariant.places

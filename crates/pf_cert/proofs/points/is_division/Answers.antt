@@ -24,6 +24,6 @@ returns c =
     (
       λ told. division_shown net points shown cuts c.index-points-0.result c.index-points-last.result c.lo.result.now c.hi.result.now same c.lo.ensures c.hi.ensures
           c.points-points.ensures.count (omega (arith, ap length same, c.points-points.ensures.count, c.if-last-eq0.false)) c.tell_parameters.ensures
-          c.index-points-0.is c.index-points-last.is (c.if-not-is_equal.ensures.0 refl) (c.if-not-is_equal-2.ensures.0 refl) (c.rise.ensures.0 told),
+          c.index-points-0.is c.index-points-last.is (c.if-not-is_span.ensures.0 refl).0 (c.if-not-is_span.ensures.0 refl).1 (c.rise.ensures.0 told),
       λ d. c.rise.ensures.1 (subst Rise (sym same) (rise_of net points cuts d)),
     )
