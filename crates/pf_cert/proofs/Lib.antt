@@ -1,0 +1,4 @@
+pub mod Joining
+pub mod Neighbours
+pub mod Places
+pub mod Seen

@@ -1,0 +1,161 @@
+// What certifies a curve, part by part.
+ghost use Rattle.std.specs.Prelude.{◌≡◌, ◌+◌, ◌<◌, ◌≤◌, ◌↔◌, IsTrue, All, length, map};
+ghost use Rattle.std.specs.Bool.{OnTrue};
+ghost use Rattle.pf_model.specs.Network.{IsInInterval, IsNetworkCut, capacity_at};
+ghost use Rattle.pf_model.specs.Curve.{IsDivision, IsCurve, CertifiesCurve, Meets, point_at, cut_at, flow_at};
+ghost use Rattle.pf_model.specs.Flow.{IsFlow};
+ghost use Rattle.pf_frame.specs.Numbers.{IsBounded};
+ghost use Rattle.pf_frame.specs.Scratch.{Serves, KeepsPlaces};
+ghost use Rattle.pf_net.specs.Limits.{graph_of};
+ghost use Rattle.pf_cert.specs.Parts.{AreCuts, AreFlows, AreBounded, IsReached, CertifiesCut, CertifiesCuts};
+
+use crate::cuts::{are_cuts, cut_count, slopes_fall};
+use crate::flows::are_flows;
+use crate::points::is_division;
+use pf_curve::Curve;
+use pf_frame::{Scratch, reach, value};
+use pf_net::Net;
+
+// Whether the value of the flow at point `j` is the capacity of cut `i` there, both in units of `1/q` of that point `p/q`.
+fn meets(net: &Net, curve: &Curve, j: usize, i: usize) -> bool
+    requires point { j < length curve.now.points }
+    requires place { i < length curve.now.cuts }
+    requires cut { IsNetworkCut net.now (cut_at curve.now.cuts i) }
+    requires flow { IsBounded (graph_of net.now) (flow_at curve.now.flows j) }
+    ensures { IsTrue result ↔ Meets net.now curve.now.points curve.now.cuts curve.now.flows j i }
+{
+    let points = curve.points();
+    let sent = value(net.frame(), net.source(), curve.flow(j));
+    let line = net.cut_line(curve.cut(i));
+    sent == line.at(&points[j])
+}
+
+// Whether two sides have the same truth values.
+fn is_same_side(first: &[bool], second: &[bool]) -> bool
+    ensures { IsTrue result ↔ (first.now ≡ second.now) }
+{
+    first == second
+}
+
+// Whether cut `i` is exactly what the residual graph of the flow at point `j` reaches from the source there. `caps` and `side`
+// are working room, with one place per arc and one per node.
+fn is_reached(
+    net: &Net,
+    curve: &Curve,
+    j: usize,
+    i: usize,
+    scratch: &mut Scratch,
+    caps: &mut [i128],
+    side: &mut [bool],
+) -> bool
+    requires point { j < length curve.now.points }
+    requires place { i < length curve.now.cuts }
+    requires division { IsDivision net.now curve.now.points curve.now.cuts }
+    requires flows { AreFlows net.now curve.now.points curve.now.flows }
+    requires room { Serves scratch.old net.now.nodes (length net.now.arcs) }
+    requires capacities { length caps.old ≡ length net.now.arcs }
+    requires nodes { length side.old ≡ net.now.nodes }
+    ensures exact { IsTrue result ↔ IsReached net.now curve.now.points curve.now.cuts curve.now.flows j i }
+    ensures places { KeepsPlaces scratch.old scratch.new }
+{
+    let points = curve.points();
+    let frame = net.frame();
+    let flow = curve.flow(j);
+    net.caps_at(&points[j], caps);
+    reach(frame, caps, flow, net.source(), scratch, side);
+    is_same_side(side, curve.cut(i))
+}
+
+// Whether cut `i` is certified by the flows at its left and its right point.
+fn certifies_cut(
+    net: &Net,
+    curve: &Curve,
+    i: usize,
+    scratch: &mut Scratch,
+    caps: &mut [i128],
+    side: &mut [bool],
+) -> bool
+    requires place { i < length curve.now.cuts }
+    requires division { IsDivision net.now curve.now.points curve.now.cuts }
+    requires cuts { AreCuts net.now curve.now.cuts }
+    requires flows { AreFlows net.now curve.now.points curve.now.flows }
+    requires bounded { AreBounded (graph_of net.now) curve.now.flows }
+    requires room { Serves scratch.old net.now.nodes (length net.now.arcs) }
+    requires capacities { length caps.old ≡ length net.now.arcs }
+    requires nodes { length side.old ≡ net.now.nodes }
+    ensures exact { IsTrue result ↔ CertifiesCut net.now curve.now.points curve.now.cuts curve.now.flows i }
+    ensures places { KeepsPlaces scratch.old scratch.new }
+{
+    // It tells the numbers of points and flows.
+    let _ = curve.points();
+    if !meets(net, curve, i, i) {
+        return false;
+    }
+    if !meets(net, curve, i + 1, i) {
+        return false;
+    }
+    is_reached(net, curve, i + 1, i, scratch, caps, side)
+}
+
+// Whether each cut is certified.
+fn certifies_cuts(
+    net: &Net,
+    curve: &Curve,
+    scratch: &mut Scratch,
+    caps: &mut [i128],
+    side: &mut [bool],
+) -> bool
+    requires division { IsDivision net.now curve.now.points curve.now.cuts }
+    requires cuts { AreCuts net.now curve.now.cuts }
+    requires flows { AreFlows net.now curve.now.points curve.now.flows }
+    requires bounded { AreBounded (graph_of net.now) curve.now.flows }
+    requires room { Serves scratch.old net.now.nodes (length net.now.arcs) }
+    requires capacities { length caps.old ≡ length net.now.arcs }
+    requires nodes { length side.old ≡ net.now.nodes }
+    ensures exact { IsTrue result ↔ CertifiesCuts net.now curve.now.points curve.now.cuts curve.now.flows }
+    ensures places { KeepsPlaces scratch.old scratch.new }
+{
+    'cuts: for i in 0..cut_count(curve) {
+        if !certifies_cut(net, curve, i, scratch, caps, side) {
+            return false;
+        }
+    }
+    true
+}
+
+/// Whether the points, cuts and flows of the curve certify it: then it is the whole least-cut function of the network. Any points and
+/// any numbers may stand in it, and its sides need not be cuts. `caps` and `side` are working room, with one place per arc
+/// and one per node; what stands in them has no meaning before or after.
+pub fn check_curve(
+    net: &Net,
+    curve: &Curve,
+    scratch: &mut Scratch,
+    caps: &mut [i128],
+    side: &mut [bool],
+) -> bool
+    requires cuts { All (λ cut. length cut ≡ net.now.nodes) curve.now.cuts }
+    requires flows { All (λ flow. length flow ≡ length net.now.arcs) curve.now.flows }
+    requires room { Serves scratch.old net.now.nodes (length net.now.arcs) }
+    requires capacities { length caps.old ≡ length net.now.arcs }
+    requires nodes { length side.old ≡ net.now.nodes }
+    ensures exact { IsTrue result ↔ CertifiesCurve net.now curve.now.points curve.now.cuts curve.now.flows }
+    ensures curve { OnTrue result (IsCurve net.now curve.now.points curve.now.cuts) }
+    ensures places { KeepsPlaces scratch.old scratch.new }
+{
+    // They tell the numbers of points and flows, and that the network is one.
+    let _ = curve.points();
+    let _ = net.frame();
+    if !is_division(net, curve) {
+        return false;
+    }
+    if !are_cuts(net, curve) {
+        return false;
+    }
+    if !slopes_fall(net, curve) {
+        return false;
+    }
+    if !are_flows(net, curve, scratch, caps) {
+        return false;
+    }
+    certifies_cuts(net, curve, scratch, caps, side)
+}
