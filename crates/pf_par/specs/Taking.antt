@@ -11,18 +11,21 @@ abbrev pub Stops : List ℕ → Type 0
 Stops [] = Unit {0}
 Stops (b ∷ bytes) = is_digit b ≡ false
 
--- The text has this value in front, and these bytes behind it: then the value is found, and these bytes are left. Want of
--- memory says nothing.
+-- memory was wanted, which says nothing of the text
+abbrev pub IsExcused : AnswerBad → Type 0
+IsExcused NotText = ⊥
+IsExcused NoMemory = Unit {0}
+
+-- The text has this value in front, and these bytes behind it: then the value is found, and these bytes are left, or memory
+-- was wanted.
 abbrev pub Takes : {X : Type 0} → X → List ℕ → Result X AnswerBad → List ℕ → Type 0
 Takes x rest (Ok y) left = (y ≡ x) × (left ≡ rest)
-Takes x rest (Err NotText) left = ⊥
-Takes x rest (Err NoMemory) left = Unit {0}
+Takes x rest (Err bad) left = IsExcused bad
 
 -- the same where nothing is found but that the piece is there
 abbrev pub Passes : List ℕ → Result (Unit {0}) AnswerBad → List ℕ → Type 0
 Passes rest (Ok y) left = left ≡ rest
-Passes rest (Err NotText) left = ⊥
-Passes rest (Err NoMemory) left = Unit {0}
+Passes rest (Err bad) left = IsExcused bad
 
 -- numbers, each with a space in front
 abbrev pub numbers_text : List ℤ → List ℕ
