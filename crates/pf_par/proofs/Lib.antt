@@ -8,3 +8,7 @@ pub mod StateSteps
 pub mod HeaderAndEnd
 pub mod PassedLines
 pub mod TakingLemmas
+pub mod OutlineLemmas
+pub mod SideTaken
+pub mod CutBounds
+pub mod SegmentsTaken

@@ -7,6 +7,8 @@ use Rattle.pf_model.specs.Network.{Network, IsNetworkCut, ends_of}
 use Rattle.pf_model.specs.Answer.{IsWithinSize, IsFractionShape}
 use Rattle.pf_text.specs.Answers.{line, cut_fields}
 use Rattle.pf_par.specs.declared.outline.Outline.{Outline}
+use Rattle.pf_par.specs.declared.outline.ValuedPoint.{ValuedPoint}
+use Rattle.pf_par.specs.declared.outline.Segment.{Segment}
 
 -- a fraction, and the value that is written of the flow there
 abbrev pub value_fields : Fraction → ℤ → List (List ℕ)
@@ -39,3 +41,29 @@ pub record IsOutlineShape (net : Network) (o : Outline) : Type 0 where
 -- the value of each flow
 abbrev pub values_of : Network → List (List ℤ) → List ℤ
 values_of net flows = map (λ flow. flow_value (map ends_of net.arcs) flow net.source) flows
+
+-- the two numbers of a fraction, each with a space in front
+abbrev pub fraction_text : Fraction → List ℕ
+fraction_text at = (32 ∷ signed_decimal at.p) ++ (32 ∷ signed_decimal at.q)
+
+-- the line of point i
+abbrev pub point_line : ℕ → ValuedPoint → List ℕ
+point_line i point = line (codes "b" ∷ decimal i ∷ value_fields point.at point.value)
+
+-- the line of cut i
+abbrev pub cut_line : Network → ℕ → List Bool → List ℕ
+cut_line net i side = line (codes "s" ∷ decimal i ∷ cut_fields net side)
+
+-- the line of cut i, and that of the point behind it
+abbrev pub segment_text : Network → ℕ → Segment → List ℕ
+segment_text net i segment = cut_line net i segment.side ++ point_line i segment.point
+
+-- a fraction, and a value
+pub record IsValuedShape (point : ValuedPoint) : Type 0 where
+  pub at : IsFractionShape point.at
+  pub value : IsWithinSize (2 ^ 120) point.value
+
+-- a cut, and the point behind it
+pub record IsSegmentShape (net : Network) (segment : Segment) : Type 0 where
+  pub cut : IsNetworkCut net segment.side
+  pub point : IsValuedShape segment.point
