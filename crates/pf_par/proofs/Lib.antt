@@ -7,3 +7,8 @@ pub mod EndLemmas
 pub mod StateSteps
 pub mod HeaderAndEnd
 pub mod PassedLines
+pub mod TakingLemmas
+pub mod OutlineLemmas
+pub mod SideTaken
+pub mod CutBounds
+pub mod SegmentsTaken

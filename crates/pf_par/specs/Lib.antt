@@ -4,3 +4,5 @@ pub mod Rules
 pub mod ParState
 pub mod Reading
 pub mod Writing
+pub mod Taking
+pub mod Outline

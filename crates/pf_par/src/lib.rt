@@ -5,17 +5,22 @@
 //! exactly the text of the definition, fail only where the sink failed, and take no memory.
 #![tactic(auto)]
 
+mod flow_lines;
+mod outline;
 mod reading;
+mod reading_curve;
 mod reading_fields;
 mod reading_forms;
 mod reading_rules;
 mod reading_state;
 #[cfg(test)]
 mod reading_tests;
+mod taking;
 mod writing;
 #[cfg(test)]
 mod writing_tests;
 
-pub use pf_lines::ReadBad;
+pub use pf_lines::{AnswerBad, ReadBad};
 pub use reading::read_par;
+pub use reading_curve::read_curve;
 pub use writing::{write_at, write_curve};
