@@ -7,3 +7,4 @@ pub mod EndLemmas
 pub mod StateSteps
 pub mod HeaderAndEnd
 pub mod PassedLines
+pub mod FlowLineLemmas

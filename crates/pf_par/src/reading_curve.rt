@@ -1,14 +1,57 @@
 // Reading of the text of a curve.
-ghost use Rattle.std.specs.Prelude.{◌≡◌, ◌≢◌, IfOk, Err};
-ghost use Rattle.pf_model.specs.Answer.{Curve, IsCurveShape};
+ghost use Rattle.std.specs.Prelude.{◌≡◌, ◌≢◌, ◌↔◌, ◌++◌, ℕ, ℤ, List, length, All, IfOk, IsTrue, Err};
+ghost use Rattle.pf_model.specs.Answer.{Curve, IsCurveShape, IsFlowShape};
 ghost use Rattle.pf_text.specs.Answers.{curve_text};
+ghost use Rattle.pf_par.specs.Outline.{values_of};
+ghost use Rattle.pf_par.specs.Taking.{Takes};
+ghost use Rattle.pf_par.specs.CurveParts.{IsPartsShape, parts_text};
+ghost use Rattle.pf_par.specs.declared.reading_curve.Parts.{Parts};
 
-use crate::outline::take_outline;
 use crate::flow_lines::take_flows;
+use crate::outline::{Outline, take_outline};
+use crate::taking::take_word;
 use pf_curve::Curve;
+use pf_frame::{FlowTable, value};
 use pf_lines::{AnswerBad, Exact};
 use pf_net::Net;
 use std::alloc::Global;
+
+// What a curve's text says, whether or not the values that are written are those of the flows.
+#[derive(Drop)]
+struct Parts {
+    outline: Outline,
+    flows: FlowTable,
+}
+
+// The first word, the outline, a flow for each point, and the last word.
+fn take_parts(alloc: Global, net: &Net, text: &mut Exact<'_>) -> Result<Parts, AnswerBad>
+    ensures taken { IfOk result (λ parts. text.old ≡ parts_text net.now parts ++ text.new) }
+    ensures shape { IfOk result (IsPartsShape net.now) }
+    ensures found { (parts : Parts) (rest : List ℕ) → IsPartsShape net.now parts → text.old ≡ parts_text net.now parts ++ rest → Takes parts rest result text.new }
+{
+    take_word(text, b"o curve\n")?;
+    let outline = take_outline(alloc, net, text)?;
+    let count = outline.points.get().len();
+    let flows = take_flows(alloc, net, count, text)?;
+    take_word(text, b"end\n")?;
+    Ok(Parts { outline, flows })
+}
+
+// Whether the value of each flow is the one that is written.
+fn values_agree(net: &Net, flows: &FlowTable, values: &[i128]) -> bool
+    requires shape { All (IsFlowShape net.now) flows.now }
+    requires count { length values.now ≡ length flows.now }
+    ensures { IsTrue result ↔ (values_of net.now flows.now ≡ values.now) }
+{
+    'flows: for j in 0..values.len() {
+        let sum = value(net.frame(), net.source(), flows.row(j));
+        let written = values[j];
+        if sum != written {
+            return false;
+        }
+    }
+    true
+}
 
 /// The curve of the right shape for the network whose text these bytes are: there is at most one. Numbers and words have
 /// one spelling there, and no line is passed over. `NotText` comes exactly where there is no such curve.
@@ -18,7 +61,12 @@ pub fn read_curve(alloc: Global, net: &Net, text: &[u8]) -> Result<Curve, Answer
     ensures refused { result ≡ Err AnswerBad.NotText → (c : Curve) → IsCurveShape net.now c → text.now ≢ curve_text net.now c }
 {
     let mut rest = Exact::new(text);
-    let outline = take_outline(alloc, net, &mut rest)?;
-    let flows = take_flows(alloc, net, outline.points.get().len(), &mut rest)?;
+    let Parts { outline, flows } = take_parts(alloc, net, &mut rest)?;
+    if !rest.rest().is_empty() {
+        return Err(AnswerBad::NotText);
+    }
+    if !values_agree(net, &flows, outline.values.get()) {
+        return Err(AnswerBad::NotText);
+    }
     Ok(Curve::new(outline.points, outline.cuts, flows))
 }

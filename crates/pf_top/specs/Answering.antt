@@ -11,7 +11,6 @@ use Rattle.pf_text.specs.Kinds.{Accepted, problem_of}
 use Rattle.pf_text.specs.Par.{par}
 use Rattle.pf_text.specs.Answers.{point_text, curve_text}
 use Rattle.pf_text.specs.Right.{IsRight, SaysNo}
-use Rattle.pf_par.specs.Writing.{IsNonnegative, AreNonnegative}
 use Rattle.pf_top.specs.declared.answering.Answer.{Answer}
 use Rattle.pf_top.specs.declared.answering.Answer.TheVariants.{AtPoint, WholeCurve}
 use Rattle.pf_text.specs.Asked.{Command, Problem, Asked, refused, accepted, asked, command_of}
@@ -51,8 +50,8 @@ text_of_answer (WholeCurve net curve) = curve_text net curve
 
 -- the answer has a shape that can be printed
 abbrev pub IsPrintable : Answer → Type 0
-IsPrintable (AtPoint net point) = IsPointShape net point × IsNonnegative point.flow
-IsPrintable (WholeCurve net curve) = IsCurveShape net curve × AreNonnegative curve.flows
+IsPrintable (AtPoint net point) = IsPointShape net point
+IsPrintable (WholeCurve net curve) = IsCurveShape net curve
 
 -- the bytes ask for this text: it is that of a right answer, which is not `no`
 pub record IsMade (command : Command) (bytes text : List ℕ) : Type 0 where
