@@ -4,8 +4,7 @@ use Rattle.std.specs.Prelude.{ℤ, ◌≤ℤ◌, All, codes}
 use Rattle.std.specs.Fmt.{decimal, signed_decimal}
 use Rattle.std.proofs.lemmas.List.{append-nil, length-append}
 use Rattle.std.proofs.lemmas.List.Elements.{All-nil, All-head, All-tail, All-push, All-same}
-use Rattle.pf_model.specs.Network.{Network}
-use Rattle.pf_model.specs.Answer.{IsWithinSize, IsFlowShape}
+use Rattle.pf_model.specs.Answer.{IsWithinSize}
 use Rattle.pf_lines.specs.declared.errors.AnswerBad.{AnswerBad}
 use Rattle.pf_lines.specs.declared.errors.AnswerBad.TheVariants.{NotText, NoMemory}
 use Rattle.pf_text.specs.Answers.{flows_text}
@@ -28,6 +27,9 @@ pub takes_nothing : {X : Type 0} (x : X) (rest left : List ℕ) (result : Result
 takes_nothing x rest left (Ok y) bad e memory = absurd cc
 takes_nothing x rest left (Err NotText) bad e memory = absurd cc
 takes_nothing x rest left (Err NoMemory) bad e memory = tt
+
+pub not_refused : {X : Type 0} (result : Result X AnswerBad) (bad : AnswerBad) → result ≡ Err bad → bad ≡ NoMemory → result ≡ Err NotText → ⊥
+not_refused result bad e memory refused = absurd cc
 
 -- ---- lists
 
@@ -142,6 +144,20 @@ flow_line_is j flow rest =
     ap (λ (t : List ℕ). t ++ rest) (sym (line_is (102 ∷ []) (decimal j ∷ fields)) ∙ ap (λ (t : List ℕ). (102 ∷ []) ++ ((32 ∷ decimal j) ++ t)) (sym (rest_is fields)))
     ∙ ap (λ (t : List ℕ). 102 ∷ 32 ∷ t) (append_assoc (decimal j) (numbers_text flow ++ 10 ∷ []) rest ∙ ap (λ (t : List ℕ). decimal j ++ t) (append_assoc (numbers_text flow) (10 ∷ []) rest))
 
+-- what stands behind the number of the flow
+pub line_numbers : (j : ℕ) (flow : List ℤ) (rest t0 t1 t2 : List ℕ) → ((r : List ℕ) → t0 ≡ (102 ∷ []) ++ r → t1 ≡ r) → ((r : List ℕ) → Stops r → t1 ≡ (32 ∷ decimal j) ++ r → t2 ≡ r)
+    → t0 ≡ flow_line j flow ++ rest → t2 ≡ numbers_text flow ++ (10 ∷ rest)
+line_numbers j flow rest t0 t1 t2 word index e =
+    let tail = numbers_text flow ++ (10 ∷ rest) in
+    index tail (stops_numbers flow (10 ∷ rest) refl) (word ((32 ∷ decimal j) ++ tail) (e ∙ flow_line_is j flow rest))
+
+pub line_taken : (j : ℕ) (flow : List ℤ) (t0 t1 t2 t3 t4 : List ℕ) → t0 ≡ (102 ∷ []) ++ t1 → t1 ≡ (32 ∷ decimal j) ++ t2 → t2 ≡ numbers_text flow ++ t3 → t3 ≡ (10 ∷ []) ++ t4
+    → t0 ≡ flow_line j flow ++ t4
+line_taken j flow t0 t1 t2 t3 t4 word index numbers feed =
+    word
+    ∙ ap (λ (t : List ℕ). (102 ∷ []) ++ t) (index ∙ ap (λ (t : List ℕ). (32 ∷ decimal j) ++ t) (numbers ∙ ap (λ (t : List ℕ). numbers_text flow ++ t) feed))
+    ∙ sym (flow_line_is j flow t4)
+
 -- ---- the lines of flows
 
 flows_text-append : (k : ℕ) (a b : List (List ℤ)) → flows_text k (a ++ b) ≡ flows_text k a ++ flows_text (k + length a) b
@@ -223,11 +239,3 @@ pub flows_end : (width count : ℕ) (old now : List ℕ) (j : ℕ) (got : List (
     → (flows : List (List ℤ)) (rest : List ℕ) → length flows ≡ count → All (IsFlowRow width) flows → old ≡ flows_text 0 flows ++ rest → (got ≡ flows) × (now ≡ rest)
 flows_end width count old now j got p all flows rest full each there =
     front_is_all (flows_text j) got flows now rest refl (omega (arith, p.number, all, full)) (p.front flows rest full each there)
-
--- ---- a row is a flow of the shape that the network asks for
-
-pub shape_of_row : (net : Network) (width : ℕ) (flow : List ℤ) → width ≡ length net.arcs → IsFlowRow width flow → IsFlowShape net flow
-shape_of_row net width flow e row = record { full = row.full ∙ e; each = row.each }
-
-pub row_of_shape : (net : Network) (width : ℕ) (flow : List ℤ) → width ≡ length net.arcs → IsFlowShape net flow → IsFlowRow width flow
-row_of_shape net width flow e shape = record { full = shape.full ∙ sym e; each = shape.each }

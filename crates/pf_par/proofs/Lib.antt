@@ -8,3 +8,4 @@ pub mod StateSteps
 pub mod HeaderAndEnd
 pub mod PassedLines
 pub mod FlowLineLemmas
+pub mod CurveReadingLemmas

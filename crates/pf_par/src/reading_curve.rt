@@ -1,10 +1,10 @@
 // Reading of the text of a curve.
-ghost use Rattle.std.specs.Prelude.{◌≡◌, ◌≢◌, ◌↔◌, ◌++◌, ℕ, ℤ, List, length, All, IfOk, IsTrue, Err};
+ghost use Rattle.std.specs.Prelude.{◌≡◌, ◌≢◌, ◌↔◌, ◌++◌, [], ℕ, List, length, All, IfOk, IsTrue, Err};
 ghost use Rattle.pf_model.specs.Answer.{Curve, IsCurveShape, IsFlowShape};
 ghost use Rattle.pf_text.specs.Answers.{curve_text};
 ghost use Rattle.pf_par.specs.Outline.{values_of};
 ghost use Rattle.pf_par.specs.Taking.{Takes};
-ghost use Rattle.pf_par.specs.CurveParts.{IsPartsShape, parts_text};
+ghost use Rattle.pf_par.specs.CurveParts.{IsPartsShape, parts_text, value_of};
 ghost use Rattle.pf_par.specs.declared.reading_curve.Parts.{Parts};
 
 use crate::flow_lines::take_flows;
@@ -37,20 +37,34 @@ fn take_parts(alloc: Global, net: &Net, text: &mut Exact<'_>) -> Result<Parts, A
     Ok(Parts { outline, flows })
 }
 
-// Whether the value of each flow is the one that is written.
+// Whether this is the value of the flow.
+fn is_value(net: &Net, flow: &[i128], written: &i128) -> bool
+    requires { IsFlowShape net.now flow.now }
+    ensures { IsTrue result ↔ (value_of net.now flow.now ≡ written.now) }
+{
+    let written = *written;
+    value(net.frame(), net.source(), flow) == written
+}
+
+// Whether the values that are written are those of the flows.
 fn values_agree(net: &Net, flows: &FlowTable, values: &[i128]) -> bool
     requires shape { All (IsFlowShape net.now) flows.now }
     requires count { length values.now ≡ length flows.now }
     ensures { IsTrue result ↔ (values_of net.now flows.now ≡ values.now) }
 {
     'flows: for j in 0..values.len() {
-        let sum = value(net.frame(), net.source(), flows.row(j));
-        let written = values[j];
-        if sum != written {
+        if !is_value(net, flows.row(j), &values[j]) {
             return false;
         }
     }
     true
+}
+
+// Whether nothing is left.
+fn is_at_end(text: &Exact<'_>) -> bool
+    ensures { IsTrue result ↔ (text.now ≡ []) }
+{
+    text.rest().is_empty()
 }
 
 /// The curve of the right shape for the network whose text these bytes are: there is at most one. Numbers and words have
@@ -60,9 +74,11 @@ pub fn read_curve(alloc: Global, net: &Net, text: &[u8]) -> Result<Curve, Answer
     ensures text { IfOk result (λ c. text.now ≡ curve_text net.now c) }
     ensures refused { result ≡ Err AnswerBad.NotText → (c : Curve) → IsCurveShape net.now c → text.now ≢ curve_text net.now c }
 {
+    // It tells that the network is within its limits.
+    let _ = net.frame();
     let mut rest = Exact::new(text);
     let Parts { outline, flows } = take_parts(alloc, net, &mut rest)?;
-    if !rest.rest().is_empty() {
+    if !is_at_end(&rest) {
         return Err(AnswerBad::NotText);
     }
     if !values_agree(net, &flows, outline.values.get()) {
