@@ -5,7 +5,7 @@ use Rattle.std.proofs.lemmas.Int.{ints}
 use Rattle.pf_model.specs.Cut.{at_arc}
 use Rattle.pf_model.specs.Flow.{IsFlow, IsWithin, flow_value}
 use Rattle.pf_model.specs.Graph.{Graph, network_of}
-use Rattle.pf_frame.specs.Numbers.{IsBounded, AreWithin, AreBalanced}
+use Rattle.pf_frame.specs.Numbers.{IsBounded, IsSized, AreWithin, AreBalanced}
 
 pub bounded_of_within : (g : Graph) (caps flow : List ℤ) → IsBounded g caps → length flow ≡ length g.ends → AreWithin caps flow (length caps) → IsBounded g flow
 bounded_of_within g caps flow b full w = record {
@@ -41,4 +41,12 @@ bounded_of_flow g caps flow s t b w = record {
   full = w.full;
   low = w.low;
   high = λ i low. let most = w.high i low in let limit = b.high i low in omega (arith, ints, most, limit);
+}
+
+-- bounded numbers are of a size below the bound
+pub sized_of_bounded : (g : Graph) (numbers : List ℤ) → IsBounded g numbers → IsSized g numbers
+sized_of_bounded g numbers b = record {
+  full = b.full;
+  low = λ i low. let least = b.low i low in omega (arith, ints, least);
+  high = b.high;
 }

@@ -1,6 +1,6 @@
 // A table of numbers, row by row.
 
-use crate::NoMemory;
+use crate::{NoMemory, Numbers};
 use std::alloc::Global;
 use std::marker::Model;
 
@@ -19,7 +19,7 @@ impl Model for FlowTable {
 }
 
 impl FlowTable {
-    ghost use Rattle.std.specs.Prelude.{◌≡◌, ◌<◌, IfOk, length, pos, replicate};
+    ghost use Rattle.std.specs.Prelude.{◌≡◌, ◌<◌, ◌++◌, [], ◌∷◌, IfOk, OnErr, length, pos, replicate};
     ghost use Rattle.std.specs.Borrow.{sem};
     ghost use Rattle.pf_frame.specs.Lending.{LendsRow, row_at};
 
@@ -32,6 +32,25 @@ impl FlowTable {
             table.push(vec![in alloc; 0; width]?)?;
         }
         Ok(FlowTable { rows: table })
+    }
+
+    /// The table without rows. It takes no memory.
+    pub fn new(alloc: Global) -> FlowTable
+        ensures { result ≡ [] }
+    {
+        FlowTable {
+            rows: Vec::new(alloc),
+        }
+    }
+
+    /// Adds the row at the end. `NoMemory` leaves the table as it was, and drops the row.
+    pub fn push(&mut self, row: Numbers) -> Result<(), NoMemory>
+        ensures added { IfOk result (λ _. self.new ≡ self.old ++ row ∷ []) }
+        ensures unchanged { OnErr result (self.new ≡ self.old) }
+    {
+        let row = row.into_vec();
+        self.rows.push(row)?;
+        Ok(())
     }
 
     /// The number of rows.
@@ -75,6 +94,17 @@ mod tests {
         assert_eq!(rt; table.row(0), [0, 0].as_slice());
         assert_eq!(rt; table.row(1), [7, 0].as_slice());
         assert_eq!(rt; table.row(2), [0, 0].as_slice());
+        Ok(())
+    }
+
+    #[test]
+    fn rows_are_added_at_the_end(rt: HostRuntime) -> Result<(), Fail> {
+        let mut table = FlowTable::new(rt.alloc());
+        table.push(Numbers::from_vec(vec![in rt.alloc(); -5; 2]?))?;
+        table.push(Numbers::new(rt.alloc()))?;
+        assert_eq!(rt; table.rows(), 2);
+        assert_eq!(rt; table.row(0), [-5, -5].as_slice());
+        assert_eq!(rt; table.row(1), [].as_slice());
         Ok(())
     }
 }

@@ -12,3 +12,5 @@ pub mod OutlineLemmas
 pub mod SideTaken
 pub mod CutBounds
 pub mod SegmentsTaken
+pub mod FlowLineLemmas
+pub mod CurveReadingLemmas

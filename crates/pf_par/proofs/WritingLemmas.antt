@@ -5,15 +5,13 @@ use Rattle.std.specs.Prelude.{ℤ, pos, Bool, codes}
 use Rattle.std.specs.Fmt.{decimal, signed_decimal}
 use Rattle.std.specs.List.{join_with_byte}
 use Rattle.pf_model.specs.Fraction.{Fraction}
-use Rattle.pf_model.specs.Flow.{IsFlow}
-use Rattle.pf_model.specs.Cut.{FlowNetwork}
-use Rattle.pf_model.specs.Network.{Network, ends_of, network_at}
-use Rattle.pf_model.specs.Curve.{CertifiesCurve, point_at, flow_at}
+use Rattle.pf_model.specs.Network.{Network, ends_of}
 use Rattle.pf_model.specs.Answer.{IsFlowShape}
-use Rattle.pf_frame.specs.Numbers.{IsBounded}
+use Rattle.pf_frame.specs.Numbers.{IsSized}
 use Rattle.pf_net.specs.Limits.{graph_of}
 use Rattle.pf_text.specs.Answers.{line, side_text, point_fields, segments_text, points_text}
-use Rattle.pf_par.specs.Writing.{IsNonnegative, AreNonnegative, spaced, rest_of_line}
+use Rattle.pf_par.specs.Writing.{spaced, rest_of_line}
+use Rattle.pf_par.specs.Taking.{numbers_text}
 
 -- A text of a list that is the texts of its pieces: one item more, and the whole behind what was printed.
 pub text_more : {X : Type 0} (text : List X → List ℕ) → ((a b : List X) → text (a ++ b) ≡ text a ++ text b) → (xs : List X) (i : ℕ) (d : X) → i < length xs
@@ -30,14 +28,10 @@ spaced-append : (a b : List (List ℕ)) → spaced (a ++ b) ≡ spaced a ++ spac
 spaced-append [] b = refl
 spaced-append (field ∷ a) b = ap (λ (rest : List ℕ). (32 ∷ field) ++ rest) (spaced-append a b) ∙ sym (append_assoc (32 ∷ field) (spaced a) (spaced b))
 
--- numbers, each with a space in front
-abbrev pub numbers_text : List ℤ → List ℕ
-numbers_text numbers = spaced (map signed_decimal numbers)
-
 pub numbers_text-append : (a b : List ℤ) → numbers_text (a ++ b) ≡ numbers_text a ++ numbers_text b
 numbers_text-append a b = ap spaced (map-append signed_decimal a b) ∙ spaced-append (map signed_decimal a) (map signed_decimal b)
 
-number_text : (number : ℤ) → numbers_text (number ∷ []) ≡ 32 ∷ signed_decimal number
+pub number_text : (number : ℤ) → numbers_text (number ∷ []) ≡ 32 ∷ signed_decimal number
 number_text number = append-nil (32 ∷ signed_decimal number)
 
 pub numbers_more : (numbers : List ℤ) (i : ℕ) → i < length numbers → numbers_text (take (i + 1) numbers) ≡ numbers_text (take i numbers) ++ (32 ∷ signed_decimal (get_or numbers i (pos 0)))
@@ -74,23 +68,15 @@ rest-append [] others = refl
 rest-append (field ∷ fields) others =
     append_assoc (32 ∷ field) (spaced fields) (rest_of_line others) ∙ ap (λ (rest : List ℕ). (32 ∷ field) ++ rest) (rest-append fields others)
 
--- a flow of a shape that can be written is bounded
-pub bounded : (net : Network) (flow : List ℤ) → IsFlowShape net flow → IsNonnegative flow → IsBounded (graph_of net) flow
-bounded net flow shape amounts =
+-- a flow of the right shape has a number of the right size for each arc
+pub sized : (net : Network) (flow : List ℤ) → IsFlowShape net flow → IsSized (graph_of net) flow
+sized net flow shape =
     let full : length flow ≡ length (map ends_of net.arcs) = shape.full ∙ sym (length-map net.arcs ends_of) in
     record {
       full = full;
-      low = λ i lt. amounts i (rw full lt);
+      low = λ i lt. (shape.each i (pos 0) (rw full lt)).low;
       high = λ i lt. (shape.each i (pos 0) (rw full lt)).high;
     }
-
--- the numbers of a flow are not below 0
-pub flow_is_nonnegative : (g : FlowNetwork) (flow : List ℤ) → IsFlow g flow → IsNonnegative flow
-flow_is_nonnegative g flow p = λ i lt. p.within.low i (rw (← p.within.full) lt)
-
--- the flows of a curve that is certified
-pub flows_are_nonnegative : (net : Network) (points : List Fraction) (cuts : List (List Bool)) (flows : List (List ℤ)) → CertifiesCurve net points cuts flows → AreNonnegative flows
-flows_are_nonnegative net points cuts flows p = λ j low. flow_is_nonnegative (network_at net (point_at net points j)) (flow_at flows j) (p.flow_is j (rw (← p.count) low))
 
 -- the first point, and the segments behind it
 pub points_text_is : (net : Network) (sides : List (List Bool)) (points : List Fraction) (flows : List (List ℤ)) (other : Fraction) → 0 < length points → 0 < length flows

@@ -6,3 +6,5 @@ pub mod Reading
 pub mod Writing
 pub mod Taking
 pub mod Outline
+pub mod FlowLines
+pub mod CurveParts

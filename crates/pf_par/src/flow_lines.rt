@@ -1,13 +1,91 @@
 // The lines of flows of a curve's text.
-ghost use Rattle.std.specs.Prelude.{◌≡◌, ◌++◌, ℕ, ℤ, List, length, All, IfOk};
+ghost use Rattle.std.specs.Prelude.{◌≡◌, ◌++◌, ◌∷◌, [], ℕ, ℤ, List, length, All, IfOk, Err, codes};
 ghost use Rattle.pf_model.specs.Answer.{IsFlowShape};
+ghost use Rattle.pf_lines.specs.declared.errors.AnswerBad.{AnswerBad};
 ghost use Rattle.pf_text.specs.Answers.{flows_text};
-ghost use Rattle.pf_par.specs.Taking.{Takes};
+ghost use Rattle.pf_par.specs.Taking.{Stops, Takes, numbers_text};
+ghost use Rattle.pf_par.specs.FlowLines.{IsFlowRow, flow_line};
 
-use pf_frame::FlowTable;
+use crate::taking::{take_index, take_number, take_word};
+use pf_frame::{FlowTable, Numbers};
 use pf_lines::{AnswerBad, Exact};
 use pf_net::Net;
 use std::alloc::Global;
+
+// The least and the greatest number of a flow.
+const LEAST: i128 = 1 - (1 << 104);
+
+const GREATEST: i128 = (1 << 104) - 1;
+
+// The numbers of a flow, each with a space in front.
+fn take_flow_numbers(
+    alloc: Global,
+    width: usize,
+    text: &mut Exact<'_>,
+) -> Result<Numbers, AnswerBad>
+    ensures taken { IfOk result (λ flow. text.old ≡ numbers_text flow ++ text.new) }
+    ensures shape { IfOk result (IsFlowRow width) }
+    ensures found { (flow : List ℤ) (rest : List ℕ) → IsFlowRow width flow → Stops rest
+        → text.old ≡ numbers_text flow ++ rest → Takes flow rest result text.new }
+{
+    let mut numbers = Vec::with_capacity(alloc, width)?;
+    'numbers: for _i in 0..width {
+        let number = take_number(text, LEAST, GREATEST)?;
+        numbers.push(number)?;
+    }
+    Ok(Numbers::from_vec(numbers))
+}
+
+// The line of flow `j`.
+fn take_flow_line(
+    alloc: Global,
+    width: usize,
+    j: usize,
+    text: &mut Exact<'_>,
+) -> Result<Numbers, AnswerBad>
+    ensures taken { IfOk result (λ flow. text.old ≡ flow_line j flow ++ text.new) }
+    ensures shape { IfOk result (IsFlowRow width) }
+    ensures found { (flow : List ℤ) (rest : List ℕ) → IsFlowRow width flow
+        → text.old ≡ flow_line j flow ++ rest → Takes flow rest result text.new }
+{
+    take_word(text, b"f")?;
+    take_index(text, j)?;
+    let flow = take_flow_numbers(alloc, width, text)?;
+    take_word(text, b"\n")?;
+    Ok(flow)
+}
+
+// Adds a flow to the table.
+fn add(flows: &mut FlowTable, flow: Numbers) -> Result<(), AnswerBad>
+    ensures added { IfOk result (λ _. flows.new ≡ flows.old ++ flow ∷ []) }
+    ensures memory { (bad : AnswerBad) → result ≡ Err bad → bad ≡ AnswerBad.NoMemory }
+{
+    match flows.push(flow) {
+        Ok(()) => Ok(()),
+        Err(_) => Err(AnswerBad::NoMemory),
+    }
+}
+
+// So many lines of flows, numbered from 0.
+fn take_flow_lines(
+    alloc: Global,
+    width: usize,
+    count: usize,
+    text: &mut Exact<'_>,
+) -> Result<FlowTable, AnswerBad>
+    ensures taken { IfOk result (λ flows. text.old ≡ flows_text 0 flows ++ text.new) }
+    ensures count { IfOk result (λ flows. length flows ≡ count) }
+    ensures shape { IfOk result (All (IsFlowRow width)) }
+    ensures found { (flows : List (List ℤ)) (rest : List ℕ) → length flows ≡ count → All (IsFlowRow width) flows
+        → text.old ≡ flows_text 0 flows ++ rest → Takes flows rest result text.new }
+{
+    let mut flows = FlowTable::new(alloc);
+    'flows: for j in 0..count {
+        let flow = take_flow_line(alloc, width, j, text)?;
+        add(&mut flows, flow)?;
+    }
+    Ok(flows)
+}
 
 /// So many flows, numbered from 0.
 pub fn take_flows(
@@ -22,5 +100,6 @@ pub fn take_flows(
     ensures found { (flows : List (List ℤ)) (rest : List ℕ) → length flows ≡ count → All (IsFlowShape net.now) flows
         → text.old ≡ flows_text 0 flows ++ rest → Takes flows rest result text.new }
 {
-    Err(AnswerBad::NoMemory)
+    let width = net.frame().arcs() as usize;
+    take_flow_lines(alloc, width, count, text)
 }

@@ -6,7 +6,7 @@ ghost use Rattle.pf_model.specs.Network.{IsNetworkCut};
 ghost use Rattle.pf_model.specs.Answer.{IsFlowShape, IsPointShape, IsCurveShape};
 ghost use Rattle.pf_io.specs.Printing.{Adds, is_spent};
 ghost use Rattle.pf_text.specs.Answers.{line, side_text, point_fields, cut_fields, point_text, segments_text, points_text, flows_text, curve_text};
-ghost use Rattle.pf_par.specs.Writing.{IsNonnegative, AreNonnegative, spaced, rest_of_line};
+ghost use Rattle.pf_par.specs.Writing.{spaced, rest_of_line};
 
 use pf_curve::{Curve, Point};
 use pf_frame::value;
@@ -90,7 +90,6 @@ fn print_point<K: Sink>(
 ) -> Result<(), Failed>
     requires usable { is_spent out.old ≡ false }
     requires shape { IsFlowShape net.now flow.now }
-    requires amounts { IsNonnegative flow.now }
     ensures { Adds out.old out.new (rest_of_line (point_fields net.now at.now flow.now)) result }
 {
     let sum = value(net.frame(), net.source(), flow);
@@ -119,7 +118,6 @@ fn print_only_point<K: Sink>(
 ) -> Result<(), Failed>
     requires usable { is_spent out.old ≡ false }
     requires shape { IsFlowShape net.now flow.now }
-    requires amounts { IsNonnegative flow.now }
     ensures { Adds out.old out.new (line (codes "b" ∷ point_fields net.now at.now flow.now)) result }
 {
     out.word(b"b")?;
@@ -159,7 +157,6 @@ fn print_answer<K: Sink>(
     requires usable { is_spent out.old ≡ false }
     requires cut { IsNetworkCut net.now side.now }
     requires shape { IsFlowShape net.now flow.now }
-    requires amounts { IsNonnegative flow.now }
     ensures { Adds out.old out.new (point_text net.now (record { at = at.now; side = side.now; flow = flow.now })) result }
 {
     out.word(b"o at\n")?;
@@ -176,7 +173,6 @@ fn print_answer<K: Sink>(
 pub fn write_at<K: Sink>(out: &mut Printer<'_, K>, net: &Net, point: &Point) -> Result<(), Failed>
     requires usable { is_spent out.old ≡ false }
     requires shape { IsPointShape net.now point.now }
-    requires amounts { IsNonnegative point.now.flow }
     ensures { Adds out.old out.new (point_text net.now point.now) result }
 {
     let side = point.side().get();
@@ -216,7 +212,6 @@ fn print_point_line<K: Sink>(
 ) -> Result<(), Failed>
     requires usable { is_spent out.old ≡ false }
     requires shape { IsFlowShape net.now flow.now }
-    requires amounts { IsNonnegative flow.now }
     ensures { Adds out.old out.new (line (codes "b" ∷ decimal j ∷ point_fields net.now at.now flow.now)) result }
 {
     out.word(b"b")?;
@@ -265,7 +260,6 @@ fn print_segment<K: Sink>(
     requires usable { is_spent out.old ≡ false }
     requires cut { IsNetworkCut net.now side.now }
     requires shape { IsFlowShape net.now flow.now }
-    requires amounts { IsNonnegative flow.now }
     ensures { Adds out.old out.new (line (codes "s" ∷ decimal i ∷ cut_fields net.now side.now) ++ line (codes "b" ∷ decimal i ∷ point_fields net.now at.now flow.now)) result }
 {
     print_cut_line(out, net, i, side)?;
@@ -277,7 +271,6 @@ fn print_segment<K: Sink>(
 fn print_segments<K: Sink>(out: &mut Printer<'_, K>, net: &Net, curve: &Curve) -> Result<(), Failed>
     requires usable { is_spent out.old ≡ false }
     requires shape { IsCurveShape net.now curve.now }
-    requires amounts { AreNonnegative curve.now.flows }
     ensures { Adds out.old out.new (segments_text net.now 1 curve.now.cuts (drop 1 curve.now.points) (drop 1 curve.now.flows)) result }
 {
     let points = curve.points();
@@ -293,7 +286,6 @@ fn print_segments<K: Sink>(out: &mut Printer<'_, K>, net: &Net, curve: &Curve) -
 fn print_points<K: Sink>(out: &mut Printer<'_, K>, net: &Net, curve: &Curve) -> Result<(), Failed>
     requires usable { is_spent out.old ≡ false }
     requires shape { IsCurveShape net.now curve.now }
-    requires amounts { AreNonnegative curve.now.flows }
     ensures { Adds out.old out.new (points_text net.now curve.now.cuts curve.now.points curve.now.flows) result }
 {
     let first = &curve.points()[0];
@@ -324,7 +316,6 @@ pub fn write_curve<K: Sink>(
 ) -> Result<(), Failed>
     requires usable { is_spent out.old ≡ false }
     requires shape { IsCurveShape net.now curve.now }
-    requires amounts { AreNonnegative curve.now.flows }
     ensures { Adds out.old out.new (curve_text net.now curve.now) result }
 {
     let cuts = curve.points().len() - 1;

@@ -21,8 +21,6 @@ use Rattle.pf_lines.specs.declared.errors.ReadBad.{ReadBad}
 use Rattle.pf_lines.specs.declared.errors.ReadBad.TheVariants as reads
 use Rattle.pf_text.specs.declared.Refusal.{Refusal}
 use Rattle.pf_par.specs.Reading.{Agrees}
-use Rattle.pf_par.specs.Writing.{IsNonnegative, AreNonnegative}
-use Rattle.pf_par.proofs.WritingLemmas.{flows_are_nonnegative}
 use Rattle.pf_text.specs.Answers.{point_text, curve_text, verdict_text}
 use Rattle.pf_top.specs.Answering.{IsBadText, IsReadTo, IsRefused, IsNetworkOf, IsPointAt, IsCurveOf, IsMade}
 
@@ -146,9 +144,3 @@ made_verdict bytes start after net holds short begins r right = record {
   right = right;
   verdict = verdict_says_no holds;
 }
-
-pub printable_point : (x : Fraction) (net : Network) (point : Point) → IsPointAt x net point → IsPointShape net point × IsNonnegative point.flow
-printable_point x net point p = (p.shape, λ i low. p.best.flow_is.within.low i (omega (arith, low, p.best.flow_is.within.full)))
-
-pub printable_curve : (net : Network) (whole : Curve) → IsCurveOf net whole → IsCurveShape net whole × AreNonnegative whole.flows
-printable_curve net whole c = (c.shape, flows_are_nonnegative net whole.points whole.cuts whole.flows c.certificate)

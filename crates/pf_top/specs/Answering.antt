@@ -13,7 +13,6 @@ use Rattle.pf_text.specs.Par.{par}
 use Rattle.pf_text.specs.Answers.{point_text, curve_text, verdict_text}
 use Rattle.pf_text.specs.Right.{IsRight, SaysNo}
 use Rattle.pf_lines.specs.Places.{Place, lines_left}
-use Rattle.pf_par.specs.Writing.{IsNonnegative, AreNonnegative}
 use Rattle.pf_top.specs.declared.answering.Answer.{Answer}
 use Rattle.pf_top.specs.declared.answering.Answer.TheVariants.{AtPoint, WholeCurve, Verdict}
 use Rattle.pf_text.specs.Asked.{Command, Problem, Asked, refused, accepted, asked, command_of}
@@ -77,8 +76,8 @@ is_no (Verdict holds) = not holds
 
 -- the answer has a shape that can be printed
 abbrev pub IsPrintable : Answer → Type 0
-IsPrintable (AtPoint net point) = IsPointShape net point × IsNonnegative point.flow
-IsPrintable (WholeCurve net curve) = IsCurveShape net curve × AreNonnegative curve.flows
+IsPrintable (AtPoint net point) = IsPointShape net point
+IsPrintable (WholeCurve net curve) = IsCurveShape net curve
 IsPrintable (Verdict holds) = Unit {0}
 
 -- the bytes ask for this text: it is that of a right answer, and it says `no` exactly where it is said to

@@ -1,7 +1,8 @@
 use Rattle.std.proofs.Common.{drop}
 use Rattle.std.proofs.lemmas.Result.{err_from_is_err_and}
 use Rattle.pf_io.proofs.PrintingLemmas.{adds_then, adds_stopped, adds_nothing}
-use Rattle.pf_par.proofs.WritingLemmas.{numbers_text, numbers_more, numbers_all}
+use Rattle.pf_par.specs.Taking.{numbers_text}
+use Rattle.pf_par.proofs.WritingLemmas.{numbers_more, numbers_all}
 use Rattle.pf_par.proofs.writing.print_numbers.Goals as goal
 
 pub items-init : goal.items-init

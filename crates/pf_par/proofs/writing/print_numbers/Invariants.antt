@@ -1,6 +1,6 @@
 use Rattle.std.proofs.Common.{take, Ok}
 use Rattle.pf_io.specs.Printing.{Adds}
-use Rattle.pf_par.proofs.WritingLemmas.{numbers_text}
+use Rattle.pf_par.specs.Taking.{numbers_text}
 use Rattle.pf_par.proofs.writing.print_numbers.Given as goal
 
 abbrev pub invariant-items : goal.invariant-items

@@ -2,7 +2,7 @@ use Rattle.std.proofs.Common.{refl}
 use Rattle.std.proofs.lemmas.Result.{err_from_is_err_and}
 use Rattle.pf_text.specs.Asked.{at}
 use Rattle.pf_top.specs.Words.{fraction_of_parameter}
-use Rattle.pf_top.proofs.AnsweringLemmas.{network_low, network_high, made_point, printable_point, asks_outside}
+use Rattle.pf_top.proofs.AnsweringLemmas.{network_low, network_high, made_point, asks_outside}
 use Rattle.pf_top.proofs.answering.answer_at.Goals as goal
 
 pub returns-clause-made : goal.returns-clause-made
@@ -10,7 +10,7 @@ returns-clause-made c =
     made_point (fraction_of_parameter c.args.parameter.now) c.args.bytes.now c.in_ok-net.net c.in_ok-point.point c.requires.short c.in_ok-net.ensures.read c.in_ok-point.ensures.inside c.in_ok-point.ensures.point
 
 pub returns-clause-printable : goal.returns-clause-printable
-returns-clause-printable c = printable_point (fraction_of_parameter c.args.parameter.now) c.in_ok-net.net c.in_ok-point.point c.in_ok-point.ensures.point
+returns-clause-printable c = c.in_ok-point.ensures.point.shape
 
 pub returns-in_err-net-clause-refused : goal.returns-in_err-net-clause-refused
 returns-in_err-net-clause-refused c = λ refusal e.

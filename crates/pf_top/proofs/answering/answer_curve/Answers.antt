@@ -1,14 +1,14 @@
 use Rattle.std.proofs.Common.{refl}
 use Rattle.std.proofs.lemmas.Result.{err_from_is_err_and}
 use Rattle.pf_text.specs.Asked.{curve}
-use Rattle.pf_top.proofs.AnsweringLemmas.{made_curve, printable_curve}
+use Rattle.pf_top.proofs.AnsweringLemmas.{made_curve}
 use Rattle.pf_top.proofs.answering.answer_curve.Goals as goal
 
 pub returns-clause-made : goal.returns-clause-made
 returns-clause-made c = made_curve c.args.bytes.now c.in_ok-net.net c.in_ok-whole.whole c.requires.short c.in_ok-net.ensures.read c.in_ok-whole.ensures.curve
 
 pub returns-clause-printable : goal.returns-clause-printable
-returns-clause-printable c = printable_curve c.in_ok-net.net c.in_ok-whole.whole c.in_ok-whole.ensures.curve
+returns-clause-printable c = c.in_ok-whole.ensures.curve.shape
 
 pub returns-in_err-net-clause-refused : goal.returns-in_err-net-clause-refused
 returns-in_err-net-clause-refused c = λ refusal e.
