@@ -27,18 +27,15 @@ fn a_curve_is_read_back(rt: HostRuntime) -> Result<(), Fail> {
 
 #[test]
 fn numbers_below_zero_are_read(rt: HostRuntime) -> Result<(), Fail> {
-    let text =
-        b"o curve\nk 1\nb 0 0 1 -7\ns 1 0 1 100\nb 1 10 1 4\nf 0 -7 5\nf 1 4 4\nend\n";
+    let text = b"o curve\nk 1\nb 0 0 1 -7\ns 1 0 1 100\nb 1 10 1 4\nf 0 -7 5\nf 1 4 4\nend\n";
     assert_eq!(rt; refusal(rt.alloc(), text)?, None);
     Ok(())
 }
 
 #[test]
 fn other_spellings_are_refused(rt: HostRuntime) -> Result<(), Fail> {
-    let zero =
-        b"o curve\nk 1\nb 0 0 1 00\ns 1 0 1 100\nb 1 10 1 4\nf 0 0 0\nf 1 4 4\nend\n";
-    let space =
-        b"o curve\nk 1\nb 0 0 1 0\ns 1 0 1 100\nb 1 10 1 4\nf 0 0  0\nf 1 4 4\nend\n";
+    let zero = b"o curve\nk 1\nb 0 0 1 00\ns 1 0 1 100\nb 1 10 1 4\nf 0 0 0\nf 1 4 4\nend\n";
+    let space = b"o curve\nk 1\nb 0 0 1 0\ns 1 0 1 100\nb 1 10 1 4\nf 0 0  0\nf 1 4 4\nend\n";
     let comment =
         b"o curve\nk 1\nb 0 0 1 0\ns 1 0 1 100\nb 1 10 1 4\nc no\nf 0 0 0\nf 1 4 4\nend\n";
     assert_eq!(rt; refusal(rt.alloc(), zero)?, Some(AnswerBad::NotText));
@@ -49,10 +46,8 @@ fn other_spellings_are_refused(rt: HostRuntime) -> Result<(), Fail> {
 
 #[test]
 fn other_values_and_rests_are_refused(rt: HostRuntime) -> Result<(), Fail> {
-    let value =
-        b"o curve\nk 1\nb 0 0 1 1\ns 1 0 1 100\nb 1 10 1 4\nf 0 0 0\nf 1 4 4\nend\n";
-    let rest =
-        b"o curve\nk 1\nb 0 0 1 0\ns 1 0 1 100\nb 1 10 1 4\nf 0 0 0\nf 1 4 4\nend\n\n";
+    let value = b"o curve\nk 1\nb 0 0 1 1\ns 1 0 1 100\nb 1 10 1 4\nf 0 0 0\nf 1 4 4\nend\n";
+    let rest = b"o curve\nk 1\nb 0 0 1 0\ns 1 0 1 100\nb 1 10 1 4\nf 0 0 0\nf 1 4 4\nend\n\n";
     assert_eq!(rt; refusal(rt.alloc(), value)?, Some(AnswerBad::NotText));
     assert_eq!(rt; refusal(rt.alloc(), rest)?, Some(AnswerBad::NotText));
     Ok(())
