@@ -1,6 +1,6 @@
 -- A curve's text and its parts: the lines of points and cuts say the values of the flows.
-use Rattle.std.proofs.Common.{◌≡◌, ◌≢◌, ℕ, suc, eqb, ◌+◌, ◌*◌, ◌<◌, ◌≤◌, ◌^◌, List, [], ◌∷◌, ◌++◌, length, get_or, take, map, Bool, true, false, cond, Result, Ok, Err, refl, sym, ap, ◌∙◌, append_assoc, arith, zero-add}
-use Rattle.std.specs.Prelude.{ℤ, ◌+ℤ◌, ◌-ℤ◌, ◌≤ℤ◌, pos, All, codes}
+use Rattle.std.proofs.Common.{◌≡◌, ℕ, suc, eqb, ◌+◌, ◌*◌, ◌≤◌, ◌^◌, List, [], ◌∷◌, ◌++◌, length, map, Bool, true, false, cond, refl, sym, ap, ◌∙◌, append_assoc, arith}
+use Rattle.std.specs.Prelude.{ℤ, ◌+ℤ◌, ◌-ℤ◌, ◌≤ℤ◌, pos, codes}
 use Rattle.std.specs.Fmt.{decimal}
 use Rattle.std.specs.List.{AllByRecursion}
 use Rattle.std.proofs.lemmas.Int.{ints}
@@ -8,11 +8,10 @@ use Rattle.std.proofs.lemmas.List.{append-nil, length-map}
 use Rattle.std.proofs.lemmas.List.Elements.{recursion_from_All, All-map, All-weaker}
 use Rattle.pf_model.specs.Fraction.{Fraction}
 use Rattle.pf_model.specs.Cut.{sum_where}
-use Rattle.pf_model.specs.Flow.{flow_value}
 use Rattle.pf_model.specs.Network.{Network, ends_of}
 use Rattle.pf_model.specs.Answer.{Curve, IsWithinSize, IsFlowShape, IsCurveShape}
 use Rattle.pf_text.specs.Answers.{line, cut_fields, point_fields, segments_text, points_text, flows_text, curve_text}
-use Rattle.pf_par.specs.Outline.{IsOutlineShape, segments_outline, points_outline, outline_text, values_of}
+use Rattle.pf_par.specs.Outline.{segments_outline, points_outline, outline_text, values_of}
 use Rattle.pf_par.specs.CurveParts.{IsPartsShape, parts_text, value_of}
 use Rattle.pf_par.specs.declared.outline.Outline.{Outline}
 use Rattle.pf_par.specs.declared.reading_curve.Parts.{Parts}

@@ -1,6 +1,6 @@
 -- Numbers and flows, taken from the front of a text one after another.
 use Rattle.std.proofs.Common.{◌≡◌, ℕ, ◌+◌, ◌<◌, ◌≤◌, ◌^◌, List, [], ◌∷◌, ◌++◌, length, map, Result, Ok, Err, refl, sym, ap, ◌∙◌, append_assoc, arith}
-use Rattle.std.specs.Prelude.{ℤ, ◌≤ℤ◌, All, codes}
+use Rattle.std.specs.Prelude.{ℤ, ◌≤ℤ◌, All}
 use Rattle.std.specs.Fmt.{decimal, signed_decimal}
 use Rattle.std.proofs.lemmas.List.{append-nil, length-append}
 use Rattle.std.proofs.lemmas.List.Elements.{All-nil, All-head, All-tail, All-push, All-same}
@@ -8,7 +8,6 @@ use Rattle.pf_model.specs.Answer.{IsWithinSize}
 use Rattle.pf_lines.specs.declared.errors.AnswerBad.{AnswerBad}
 use Rattle.pf_lines.specs.declared.errors.AnswerBad.TheVariants.{NotText, NoMemory}
 use Rattle.pf_text.specs.Answers.{flows_text}
-use Rattle.pf_par.specs.Writing.{rest_of_line}
 use Rattle.pf_par.specs.Taking.{Takes, Passes, Stops, numbers_text}
 use Rattle.pf_par.specs.FlowLines.{IsFlowRow, flow_line}
 use Rattle.pf_par.proofs.WritingLemmas.{numbers_text-append, number_text, rest_is, line_is}

@@ -9,6 +9,8 @@ mod flow_lines;
 mod outline;
 mod reading;
 mod reading_curve;
+#[cfg(test)]
+mod reading_curve_tests;
 mod reading_fields;
 mod reading_forms;
 mod reading_rules;

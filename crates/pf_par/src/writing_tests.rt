@@ -7,7 +7,7 @@ use std::alloc::Global;
 use std::test::Fail;
 
 // From node 0 by node 1 to node 2: the first arc grows with the parameter, and the second holds 4.
-fn three_nodes(alloc: Global) -> Result<Net, Fail> {
+pub fn three_nodes(alloc: Global) -> Result<Net, Fail> {
     let first = AffineArc {
         tail: 0,
         head: 1,

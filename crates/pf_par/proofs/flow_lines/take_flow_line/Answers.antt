@@ -1,4 +1,4 @@
-use Rattle.std.proofs.Common.{◌≡◌, ◌∷◌, refl, ◌∙◌}
+use Rattle.std.proofs.Common.{◌∷◌, refl, ◌∙◌}
 use Rattle.std.proofs.lemmas.Result.{err_from_is_err_and}
 use Rattle.pf_par.proofs.FlowLineLemmas.{line_numbers, line_taken, only_memory, only_memory_passes, takes_nothing}
 use Rattle.pf_par.proofs.flow_lines.take_flow_line.Goals as goal

@@ -1,10 +1,9 @@
-use Rattle.std.proofs.Common.{◌≡◌, ◌∷◌, [], ◌++◌, ℕ, ℤ, List, length, Err, sym, ap, ◌∙◌, arith}
-use Rattle.std.specs.Prelude.{neg_ℤ, pos, negsuc}
+use Rattle.std.proofs.Common.{ℤ, ◌∙◌, arith}
+use Rattle.std.specs.Prelude.{pos, negsuc}
 use Rattle.std.proofs.lemmas.Int.{ints}
 use Rattle.std.proofs.lemmas.Result.{err_from_is_err_and}
 use Rattle.pf_rat.proofs.Products.{comes_back}
-use Rattle.pf_par.specs.Taking.{Takes}
-use Rattle.pf_par.proofs.FlowLineLemmas.{AreBounds, HasNumbers, numbers_begin, number_taken, number_refused, numbers_shape, numbers_end, takes_nothing}
+use Rattle.pf_par.proofs.FlowLineLemmas.{AreBounds, numbers_begin, number_taken, number_refused, numbers_shape, numbers_end, takes_nothing}
 use Rattle.pf_par.proofs.flow_lines.take_flow_numbers.Goals as goal
 
 pub numbers-init : goal.numbers-init
@@ -23,7 +22,6 @@ pub numbers-preserved : goal.numbers-preserved
 numbers-preserved c =
     let low = c.in_ok-number.ensures.range.0 in
     let high = c.in_ok-number.ensures.range.1 in
-    let x : ℤ = c.in_ok-number.number in
     let back = comes_back c.in_ok-number.number (omega (arith, ints, low, high)) in
     rw (c.in_ok-push.ensures.items, back) (number_taken c.args.width c.args.text.now c.numbers.text c.take_number.new.text c.numbers._i c.numbers.numbers.items c.in_ok-number.number _ _ c.numbers.invariant c.numbers-test.true bounds
     c.in_ok-number.ensures.taken (record { low = omega (arith, ints, low); high = omega (arith, ints, high) }) c.in_ok-number.ensures.found)
