@@ -1,13 +1,13 @@
 -- The sizes of the numbers of a cut's line.
-use Rattle.std.proofs.Common.{◌≡◌, ℕ, suc, ◌+◌, ◌*◌, ◌^◌, ◌<◌, ◌≤◌, List, [], ◌∷◌, length, map, Bool, true, false, cond, refl, arith}
-use Rattle.std.specs.Prelude.{ℤ, ◌+ℤ◌, ◌≤ℤ◌, neg_ℤ, pos, All}
+use Rattle.std.proofs.Common.{◌≡◌, ℕ, suc, ◌+◌, ◌*◌, ◌^◌, ◌≤◌, List, [], ◌∷◌, length, map, Bool, true, false, cond, arith}
+use Rattle.std.specs.Prelude.{ℤ, ◌+ℤ◌, ◌≤ℤ◌, neg_ℤ, pos}
 use Rattle.std.specs.List.{AllByRecursion}
 use Rattle.std.proofs.lemmas.Int.{ints}
 use Rattle.std.proofs.lemmas.List.Elements.{recursion_from_All}
 use Rattle.pf_model.specs.declared.AffineArc.{AffineArc}
 use Rattle.pf_model.specs.Cut.{sum_where, leaves}
 use Rattle.pf_model.specs.Network.{Network, ends_of, cut_a, cut_b}
-use Rattle.pf_net.specs.Limits.{IsSmallArc, IsBuilt}
+use Rattle.pf_net.specs.Limits.{IsBuilt}
 
 record IsAtMost (m : ℕ) (x : ℤ) : Type 0 where
   pub low : neg_ℤ (pos m) ≤ℤ x

@@ -1,5 +1,5 @@
 -- What a call answers that takes a piece of a text from its front.
-use Rattle.std.specs.Prelude.{◌≡◌, ℕ, ℤ, Bool, false, List, [], ◌∷◌, ◌++◌, map, Result, Ok, Err}
+use Rattle.std.specs.Prelude.{◌≡◌, ℕ, ℤ, false, List, [], ◌∷◌, map, Result, Ok, Err}
 use Rattle.std.specs.Fmt.{signed_decimal}
 use Rattle.pf_text.specs.Numbers.{is_digit}
 use Rattle.pf_lines.specs.declared.errors.AnswerBad.{AnswerBad}

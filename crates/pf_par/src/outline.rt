@@ -1,5 +1,5 @@
 // The lines of points and cuts of a curve's text.
-ghost use Rattle.std.specs.Prelude.{◌≡◌, ◌↔◌, ◌++◌, ◌+◌, ◌<◌, ◌≤◌, ◌^◌, ◌≤ℤ◌, ℕ, ℤ, pos, neg_ℤ, Bool, List, [], ◌∷◌, length, codes, IsTrue, IfOk, IfErr, IfSome, IfNone};
+ghost use Rattle.std.specs.Prelude.{◌≡◌, ◌↔◌, ◌++◌, ◌+◌, ◌<◌, ◌≤◌, ◌^◌, ℕ, ℤ, Bool, List, [], ◌∷◌, length, codes, IsTrue, IfOk, IfErr, IfSome, IfNone};
 ghost use Rattle.std.specs.Fmt.{decimal, signed_decimal};
 ghost use Rattle.pf_model.specs.Fraction.{Fraction, IsBoundedFraction, IsLowest};
 ghost use Rattle.pf_model.specs.Network.{IsNetworkCut, cut_a, cut_b};

@@ -1,7 +1,6 @@
-use Rattle.std.proofs.Common.{◌≡◌, ◌++◌, ◌∷◌, [], List, ℕ, Bool, ap, sym, ◌∙◌, refl, arith}
+use Rattle.std.proofs.Common.{◌≡◌, ◌++◌, ◌∷◌, ap, sym, ◌∙◌, refl, arith}
 use Rattle.std.proofs.lemmas.Int.{ints}
 use Rattle.std.proofs.lemmas.Result.{err_from_is_err_and}
-use Rattle.std.specs.Fmt.{signed_decimal}
 use Rattle.pf_model.specs.Network.{cut_a, cut_b}
 use Rattle.pf_text.specs.Answers.{side_text}
 use Rattle.pf_par.proofs.CutBounds.{constant_size, slope_size}

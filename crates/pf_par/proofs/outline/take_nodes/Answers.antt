@@ -1,8 +1,8 @@
-use Rattle.std.proofs.Common.{◌≡◌, ◌++◌, ◌∷◌, [], ◌+◌, ◌<◌, length, sym, ◌∙◌, arith}
-use Rattle.std.proofs.lemmas.List.{length-append, length_push}
+use Rattle.std.proofs.Common.{◌≡◌, ◌++◌, ◌∷◌, [], ◌<◌, length, ◌∙◌, arith}
+use Rattle.std.proofs.lemmas.List.{length_push}
 use Rattle.std.proofs.lemmas.Result.{err_from_is_err_and}
 use Rattle.pf_text.specs.Answers.{side_text}
-use Rattle.pf_par.proofs.SideTaken.{HasRead, comes, goes_on, ends}
+use Rattle.pf_par.proofs.SideTaken.{comes, goes_on, ends}
 use Rattle.pf_par.proofs.outline.take_nodes.Goals as goal
 
 pub returns-in_err-inside-clause-found : goal.returns-in_err-inside-clause-found
