@@ -23,9 +23,9 @@ contained : (g : FlowNetwork) (flow : List ℤ) (xs ys : List Bool) → IsReach 
 contained g flow xs ys a b v held = elim (cases_lt v g.nodes) [
   | inl low ↦ (b.exact v low).1 ((a.exact v low).0 held)
   | inr high ↦ (
-    let full = a.full in
-    absurd (false≢true (sym (get_or_past xs v false (omega arith)) ∙ held))
-  )
+      let full = a.full in
+      absurd (false≢true (sym (get_or_past xs v false (omega arith)) ∙ held))
+      )
 ]
 
 pub same_reach : (g : FlowNetwork) (flow : List ℤ) (xs ys : List Bool) → IsReach g flow xs → IsReach g flow ys → xs ≡ ys

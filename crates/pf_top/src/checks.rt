@@ -4,9 +4,11 @@ use pf_io::{MemSink, MemSource};
 use std::alloc::{AllocError, Global};
 use std::test::Fail;
 
-const PROBLEM: &[u8] = b"p par 5 7\ni 0 1 8 1\nn 1 s\nn 5 t\na 1 2 2 1\na 1 3 0 2\na 2 4 5 0\na 3 4 4 0\na 2 3 1 0\na 4 5 14 -1\na 3 5 3 0\nend\n";
+const PROBLEM: &[u8] =
+    b"p par 5 7\ni 0 1 8 1\nn 1 s\nn 5 t\na 1 2 2 1\na 1 3 0 2\na 2 4 5 0\na 3 4 4 0\na 2 3 1 0\na 4 5 14 -1\na 3 5 3 0\nend\n";
 
-const CERTIFICATE: &[u8] = b"o curve\nk 3\nb 0 0 1 2\ns 1 2 3 10000\nb 1 10 3 36\ns 2 12 0 11100\nb 2 5 1 12\ns 3 17 -1 11110\nb 3 8 1 9\nf 0 2 0 2 0 0 2 0\nf 1 16 20 15 12 1 27 9\nf 2 5 7 5 4 0 9 3\nf 3 5 4 5 1 0 6 3\nend\n";
+const CERTIFICATE: &[u8] =
+    b"o curve\nk 3\nb 0 0 1 2\ns 1 2 3 10000\nb 1 10 3 36\ns 2 12 0 11100\nb 2 5 1 12\ns 3 17 -1 11110\nb 3 8 1 9\nf 0 2 0 2 0 0 2 0\nf 1 16 20 15 12 1 27 9\nf 2 5 7 5 4 0 9 3\nf 3 5 4 5 1 0 6 3\nend\n";
 
 // Where the answer is cut out, from one byte to before another, and what stands there in its place.
 const CHANGES: [(usize, usize, &[u8]); 98] = [

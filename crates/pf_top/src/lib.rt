@@ -19,6 +19,5 @@ pub use status::Status;
 
 #[cfg(test)]
 mod checks;
-
 #[cfg(test)]
 mod tests;

@@ -53,13 +53,8 @@ fn status_of(answer: &Answer) -> Status
     match answer {
         Answer::AtPoint(_, _) => Status::Done,
         Answer::WholeCurve(_, _) => Status::Done,
-        Answer::Verdict(holds) => {
-            if *holds {
-                Status::Done
-            } else {
-                Status::No
-            }
-        }
+        Answer::Verdict(true) => Status::Done,
+        Answer::Verdict(false) => Status::No,
     }
 }
 

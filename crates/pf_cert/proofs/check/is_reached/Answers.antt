@@ -25,8 +25,7 @@ returns-clause-exact c =
     let e = point_here net points c.points-points.result.now j c.index-points-j.result c.points-points.ensures.points (omega (arith, ap length c.points-points.ensures.points)) c.index-points-j.is in
     let found = reach_here net x c.index-points-j.result c.frame-frame.result.now c.source.result c.caps_at.new.caps c.flow-flow.result.now flow c.reach.new.side
     c.frame-frame.ensures.frame c.source.ensures e c.caps_at.ensures.capacities c.flow-flow.ensures c.reach.ensures.reach in
-    let P : List Bool → Type 0 = λ side. IsReach (network_at net x) flow side in
-    (
+    let P : List Bool → Type 0 = λ side. IsReach (network_at net x) flow side in (
       λ told. subst P (c.is_same_side.ensures.0 told ∙ c.cut.ensures) found,
       λ r. c.is_same_side.ensures.1 (same_reach (network_at net x) flow c.reach.new.side (cut_at cuts i) found r ∙ sym c.cut.ensures),
     )

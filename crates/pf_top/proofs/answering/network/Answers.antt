@@ -1,4 +1,3 @@
-use Rattle.std.proofs.Common.{ap, ◌∙◌, Err}
 use Rattle.std.proofs.lemmas.Result.{err_from_is_err_and}
 use Rattle.pf_top.proofs.AnsweringLemmas.{network_refused, network_made, network_followed}
 use Rattle.pf_top.proofs.answering.network.Goals as goal

@@ -22,7 +22,7 @@ pub returns-in-Ok-hand_out : goal.returns-in-Ok-hand_out
 returns-in-Ok-hand_out g c = λ words some.
     rw c.status_of.ensures
     (run_answered g.S.Source c.args.source.now c.read_all.new.source g.O.Sink c.args.out.now c.hand_out.new.out c.args.request.now words c.in-Ok.bytes.items (text_of_answer c.in-Ok-answer_request.answer) (is_no c.in-Ok-answer_request.answer)
-        some c.in-Ok.ensures.whole c.in-Ok.ensures.end c.read_all.ensures.later c.hand_out.ensures.cause.later (rw c.deref.ensures.value at c.in-Ok-answer_request.ensures.made) c.in-Ok-hand_out.ensures.whole)
+    some c.in-Ok.ensures.whole c.in-Ok.ensures.end c.read_all.ensures.later c.hand_out.ensures.cause.later (rw c.deref.ensures.value at c.in-Ok-answer_request.ensures.made) c.in-Ok-hand_out.ensures.whole)
 
 pub returns-in-Ok-answer_request : goal.returns-in-Ok-answer_request
 returns-in-Ok-answer_request g c = λ words some.
