@@ -1,9 +1,9 @@
 -- A scratch that keeps its places serves on; sides that the same flow reaches are one list.
-use Rattle.std.proofs.Common.{◌≡◌, ℕ, ◌<◌, ◌≤◌, List, length, Bool, true, false, arith, sym, ◌∙◌, inl, inr, subst}
+use Rattle.std.proofs.Common.{◌≡◌, ℕ, List, Bool, false, arith, sym, ◌∙◌, inl, inr}
 use Rattle.std.specs.Prelude.{ℤ}
 use Rattle.std.proofs.lemmas.Bool.{cases_lt, false≢true}
 use Rattle.std.proofs.lemmas.List.{get_or_past}
-use Rattle.pf_model.specs.Cut.{FlowNetwork, has, IsContained}
+use Rattle.pf_model.specs.Cut.{FlowNetwork, IsContained}
 use Rattle.pf_model.specs.Residual.{IsReach}
 use Rattle.pf_model.proofs.Unique.{same_sides}
 use Rattle.pf_frame.specs.declared.scratch.Scratch.{Scratch}
@@ -23,9 +23,9 @@ contained : (g : FlowNetwork) (flow : List ℤ) (xs ys : List Bool) → IsReach 
 contained g flow xs ys a b v held = elim (cases_lt v g.nodes) [
   | inl low ↦ (b.exact v low).1 ((a.exact v low).0 held)
   | inr high ↦ (
-    let full = a.full in
-    absurd (false≢true (sym (get_or_past xs v false (omega arith)) ∙ held))
-  )
+      let full = a.full in
+      absurd (false≢true (sym (get_or_past xs v false (omega arith)) ∙ held))
+      )
 ]
 
 pub same_reach : (g : FlowNetwork) (flow : List ℤ) (xs ys : List Bool) → IsReach g flow xs → IsReach g flow ys → xs ≡ ys

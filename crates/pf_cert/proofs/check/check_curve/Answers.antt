@@ -1,6 +1,6 @@
 use Rattle.std.proofs.Common.{refl}
 use Rattle.std.proofs.lemmas.Bool.{OnTrue_from}
-use Rattle.pf_model.specs.Curve.{IsCurve, CertifiesCurve}
+use Rattle.pf_model.specs.Curve.{IsCurve}
 use Rattle.pf_model.proofs.Certificate.{certified_is_curve}
 use Rattle.pf_cert.proofs.Joining.{joined, parts_of}
 use Rattle.pf_cert.proofs.check.check_curve.Goals as goal
@@ -11,8 +11,7 @@ returns-clause-exact c =
     let points = c.args.curve.now.points in
     let cuts = c.args.curve.now.cuts in
     let flows = c.args.curve.now.flows in
-    let rising = c.frame.ensures.built.rising in
-    (
+    let rising = c.frame.ensures.built.rising in (
       λ told. joined net points cuts flows rising c.points.ensures.flow_count (c.if-not-is_division.ensures.0 refl) (c.if-not-are_cuts.ensures.0 refl)
           (c.if-not-slopes_fall.ensures.0 refl) (c.if-not-are_flows.ensures.exact.0 refl) (c.certifies_cuts.ensures.exact.0 told),
       λ k. c.certifies_cuts.ensures.exact.1 (parts_of net points cuts flows rising k),

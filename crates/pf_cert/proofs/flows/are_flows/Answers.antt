@@ -1,4 +1,4 @@
-use Rattle.std.proofs.Common.{◌≡◌, length, arith, refl, ap, sym, subst, below_more}
+use Rattle.std.proofs.Common.{length, arith, refl, ap, below_more}
 use Rattle.std.proofs.lemmas.Bool.{false≢true}
 use Rattle.pf_model.specs.Flow.{IsFlow}
 use Rattle.pf_model.specs.Network.{network_at}
@@ -21,8 +21,7 @@ pub returns-then-not-has_flow-clause-exact : goal.returns-then-not-has_flow-clau
 returns-then-not-has_flow-clause-exact c =
     let net = c.args.net.now in
     let points = c.args.curve.now.points in
-    let e = point_here net points c.points-points.result.now c.points.j c.index-points-j.result c.points-points.ensures.points c.points-test.true c.index-points-j.is in
-    (
+    let e = point_here net points c.points-points.result.now c.points.j c.index-points-j.result c.points-points.ensures.points c.points-test.true c.index-points-j.is in (
       λ told. absurd (false≢true told),
       λ f. c.if-not-has_flow.ensures.exact.1 (flow_there net _ _ _ _ e c.flow.ensures (f.each c.points.j (omega (arith, ap length c.points-points.ensures.points, c.points-test.true)))),
     )
