@@ -1,5 +1,5 @@
 -- The parts make up the certificate, and a certificate has its parts.
-use Rattle.std.proofs.Common.{◌≡◌, ℕ, ◌+◌, ◌<◌, List, length, Bool, ap, sym, subst}
+use Rattle.std.proofs.Common.{◌≡◌, ℕ, ◌+◌, List, length, Bool, ap, sym, subst}
 use Rattle.std.specs.Prelude.{ℤ}
 use Rattle.pf_model.specs.declared.Sense.{Sense}
 use Rattle.pf_model.specs.declared.Sense.TheVariants.{Rising}

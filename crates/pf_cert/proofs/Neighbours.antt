@@ -1,6 +1,6 @@
 -- What holds of each two neighbours of a list, from the first two on.
 use Rattle.std.proofs.Common.{◌≡◌, ℕ, ◌+◌, ◌-◌, ◌<◌, ◌≤◌, List, length, get_or, Bool, arith, ap, sym, ◌∙◌, subst, inl, inr}
-use Rattle.std.specs.Prelude.{ℤ, ◌<ℤ◌, All}
+use Rattle.std.specs.Prelude.{◌<ℤ◌, All}
 use Rattle.std.proofs.lemmas.Bool.{cases_lt}
 use Rattle.std.proofs.lemmas.List.{get_or_default}
 use Rattle.pf_model.specs.Fraction.{Fraction, IsBelow, IsEqual, IsParameter}

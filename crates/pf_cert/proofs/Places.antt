@@ -1,9 +1,9 @@
 -- A scratch that keeps its places serves on; sides that the same flow reaches are one list.
-use Rattle.std.proofs.Common.{◌≡◌, ℕ, ◌<◌, ◌≤◌, List, length, Bool, true, false, arith, sym, ◌∙◌, inl, inr, subst}
+use Rattle.std.proofs.Common.{◌≡◌, ℕ, List, Bool, false, arith, sym, ◌∙◌, inl, inr}
 use Rattle.std.specs.Prelude.{ℤ}
 use Rattle.std.proofs.lemmas.Bool.{cases_lt, false≢true}
 use Rattle.std.proofs.lemmas.List.{get_or_past}
-use Rattle.pf_model.specs.Cut.{FlowNetwork, has, IsContained}
+use Rattle.pf_model.specs.Cut.{FlowNetwork, IsContained}
 use Rattle.pf_model.specs.Residual.{IsReach}
 use Rattle.pf_model.proofs.Unique.{same_sides}
 use Rattle.pf_frame.specs.declared.scratch.Scratch.{Scratch}

@@ -1,5 +1,5 @@
 -- The parts of the certificate of a curve over a rising network, each of which one function tests.
-use Rattle.std.specs.Prelude.{◌≡◌, ℕ, ◌+◌, ◌<◌, ℤ, Bool, List, length, get_or}
+use Rattle.std.specs.Prelude.{ℕ, ◌+◌, ◌<◌, ℤ, Bool, List, length, get_or}
 use Rattle.pf_model.specs.Fraction.{Fraction, IsBelow}
 use Rattle.pf_model.specs.Flow.{IsFlow}
 use Rattle.pf_model.specs.Graph.{Graph}
@@ -34,6 +34,6 @@ pub record CertifiesCut (net : Network) (points : List Fraction) (cuts : List (L
   pub right : Meets net points cuts flows (i + 1) i
   pub reach : IsReached net points cuts flows (i + 1) i
 
--- so is each cut certified
+-- this holds of each cut
 pub record CertifiesCuts (net : Network) (points : List Fraction) (cuts : List (List Bool)) (flows : List (List ℤ)) : Type 0 where
   pub each : (i : ℕ) → i < length cuts → CertifiesCut net points cuts flows i

@@ -1,9 +1,8 @@
 // What certifies a curve, part by part.
-ghost use Rattle.std.specs.Prelude.{◌≡◌, ◌+◌, ◌<◌, ◌≤◌, ◌↔◌, IsTrue, All, length, map};
+ghost use Rattle.std.specs.Prelude.{◌≡◌, ◌+◌, ◌<◌, ◌↔◌, IsTrue, All, length};
 ghost use Rattle.std.specs.Bool.{OnTrue};
-ghost use Rattle.pf_model.specs.Network.{IsInInterval, IsNetworkCut, capacity_at};
-ghost use Rattle.pf_model.specs.Curve.{IsDivision, IsCurve, CertifiesCurve, Meets, point_at, cut_at, flow_at};
-ghost use Rattle.pf_model.specs.Flow.{IsFlow};
+ghost use Rattle.pf_model.specs.Network.{IsNetworkCut};
+ghost use Rattle.pf_model.specs.Curve.{IsDivision, IsCurve, CertifiesCurve, Meets, cut_at, flow_at};
 ghost use Rattle.pf_frame.specs.Numbers.{IsBounded};
 ghost use Rattle.pf_frame.specs.Scratch.{Serves, KeepsPlaces};
 ghost use Rattle.pf_net.specs.Limits.{graph_of};
@@ -123,9 +122,11 @@ fn certifies_cuts(
     true
 }
 
-/// Whether the points, cuts and flows of the curve certify it: then it is the whole least-cut function of the network. Any points and
-/// any numbers may stand in it, and its sides need not be cuts. `caps` and `side` are working room, with one place per arc
-/// and one per node; what stands in them has no meaning before or after.
+/// Whether the lists of the curve certify it: the points divide the network's interval, each side is a cut, slopes fall
+/// strictly, at each point `p/q` there is a flow whose value is the capacity of both neighbouring cuts, in units of `1/q`, and
+/// each cut is what the flow at its right point still reaches. Then they are the whole least-cut function of the network. Any
+/// values may stand in them. Cuts are indexed by node, flows by arc. `caps` and `side` are working room, with one place per
+/// arc and one per node; what stands there has no meaning before or after.
 pub fn check_curve(
     net: &Net,
     curve: &Curve,

@@ -1,7 +1,7 @@
 // The cuts of a curve: each holds the source and not the sink, and their slopes fall strictly.
 ghost use Rattle.std.specs.Prelude.{◌≡◌, ◌<◌, ◌<ℤ◌, ◌↔◌, IsTrue, All, length};
 ghost use Rattle.pf_model.specs.Network.{IsNetworkCut, cut_b};
-ghost use Rattle.pf_model.specs.Curve.{SlopesFall, cut_at};
+ghost use Rattle.pf_model.specs.Curve.{SlopesFall};
 ghost use Rattle.pf_cert.specs.Parts.{AreCuts};
 
 use pf_curve::Curve;

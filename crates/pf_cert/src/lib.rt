@@ -1,6 +1,6 @@
-//! The test of a whole least-cut function, apart from any search: a curve with a flow at each point is taken exactly where
-//! these lists certify it, and then it is the curve of the network. Any numbers may stand in the lists. It takes no memory, and
-//! goes over the arcs a fixed number of times for each point.
+//! A test of whole least-cut functions apart from any search: points, cuts and a flow at each point are taken exactly where
+//! they certify the curve of the network, whatever numbers and truth values stand in them. It takes no memory, and goes over
+//! the arcs a constant number of times for each point.
 #![tactic(auto)]
 
 mod check;

@@ -1,6 +1,5 @@
 // The points of a curve: they rise strictly from the low end of the interval to its high end.
 ghost use Rattle.std.specs.Prelude.{◌↔◌, IsTrue, All};
-ghost use Rattle.std.specs.Bool.{OnTrue};
 ghost use Rattle.pf_model.specs.Fraction.{IsBelow, IsEqual, IsParameter};
 ghost use Rattle.pf_model.specs.Curve.{IsDivision};
 ghost use Rattle.pf_cert.specs.Parts.{Rise};

@@ -1,5 +1,5 @@
 // Curves that are written out, over the network of three nodes in a row whose first arc grows with the parameter.
-ghost use Rattle.std.specs.Prelude.{◌≡◌, ◌<◌, ℤ, List, [], ◌∷◌, All, IfOk, length, slice_set};
+ghost use Rattle.std.specs.Prelude.{◌≡◌, ◌<◌, [], ◌∷◌, All, IfOk, length, slice_set};
 ghost use Rattle.pf_model.specs.Curve.{flow_at};
 
 use crate::check_curve;

@@ -1,6 +1,6 @@
 use Rattle.std.proofs.Common.{refl}
 use Rattle.std.proofs.lemmas.Bool.{OnTrue_from}
-use Rattle.pf_model.specs.Curve.{IsCurve, CertifiesCurve}
+use Rattle.pf_model.specs.Curve.{IsCurve}
 use Rattle.pf_model.proofs.Certificate.{certified_is_curve}
 use Rattle.pf_cert.proofs.Joining.{joined, parts_of}
 use Rattle.pf_cert.proofs.check.check_curve.Goals as goal

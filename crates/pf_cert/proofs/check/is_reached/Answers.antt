@@ -1,4 +1,4 @@
-use Rattle.std.proofs.Common.{◌≡◌, List, length, Bool, arith, ap, sym, ◌∙◌, ◌+◌, subst}
+use Rattle.std.proofs.Common.{List, length, Bool, arith, ap, sym, ◌∙◌, subst}
 use Rattle.pf_model.specs.Residual.{IsReach}
 use Rattle.pf_model.specs.Network.{network_at}
 use Rattle.pf_model.specs.Curve.{point_at, cut_at, flow_at}
@@ -22,7 +22,8 @@ returns-clause-exact c =
     let j = c.args.j in
     let x = point_at net points j in
     let flow = flow_at flows j in
-    let e = point_here net points c.points-points.result.now j c.index-points-j.result c.points-points.ensures.points (omega (arith, ap length c.points-points.ensures.points)) c.index-points-j.is in
+    let shown = c.points-points.ensures.points in
+    let e = point_here net points c.points-points.result.now j c.index-points-j.result shown (omega (arith, ap length shown)) c.index-points-j.is in
     let found = reach_here net x c.index-points-j.result c.frame-frame.result.now c.source.result c.caps_at.new.caps c.flow-flow.result.now flow c.reach.new.side
     c.frame-frame.ensures.frame c.source.ensures e c.caps_at.ensures.capacities c.flow-flow.ensures c.reach.ensures.reach in
     let P : List Bool → Type 0 = λ side. IsReach (network_at net x) flow side in (

@@ -1,4 +1,4 @@
-use Rattle.std.proofs.Common.{◌≡◌, length, arith, refl, ap, sym, subst, below_more}
+use Rattle.std.proofs.Common.{length, arith, refl, ap, below_more}
 use Rattle.std.proofs.lemmas.Bool.{false≢true}
 use Rattle.pf_model.specs.Flow.{IsFlow}
 use Rattle.pf_model.specs.Network.{network_at}

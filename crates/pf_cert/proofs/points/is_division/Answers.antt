@@ -1,7 +1,5 @@
-use Rattle.std.proofs.Common.{◌≡◌, ◌<◌, ◌-◌, List, length, get_or, arith, refl, ap, sym, ◌∙◌, subst}
-use Rattle.std.specs.Prelude.{All}
+use Rattle.std.proofs.Common.{length, arith, refl, ap, sym, subst}
 use Rattle.std.proofs.lemmas.Bool.{false≢true}
-use Rattle.pf_model.specs.Fraction.{Fraction, IsParameter}
 use Rattle.pf_cert.specs.Parts.{Rise}
 use Rattle.pf_cert.proofs.Neighbours.{division_shown, rise_of}
 use Rattle.pf_cert.proofs.points.is_division.Goals as goal

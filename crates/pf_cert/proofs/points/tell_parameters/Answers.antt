@@ -1,4 +1,4 @@
-use Rattle.std.proofs.Common.{◌≡◌, ℕ, ◌<◌, get_or, arith, sym, ◌∙◌, subst, below_more}
+use Rattle.std.proofs.Common.{◌≡◌, get_or, arith, ◌∙◌, subst, below_more}
 use Rattle.std.proofs.lemmas.List.{get_or_default}
 use Rattle.pf_model.specs.Fraction.{Fraction, IsParameter}
 use Rattle.pf_cert.proofs.points.tell_parameters.Goals as goal
