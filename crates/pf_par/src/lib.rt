@@ -1,8 +1,10 @@
 //! Texts of the kind `par`, which give a monotone parametric network, and the texts of the answers to `at` and `curve`.
+//! The text of a curve is also read back.
 //!
 //! Proved: `read_par` gives exactly the network of the definition, or exactly its first refusal,
 //! and leaves the reader of lines behind the line that decided. `write_at` and `write_curve` print
 //! exactly the text of the definition, fail only where the sink failed, and take no memory.
+//! `read_curve` gives the curve whose text the bytes are, and `NotText` exactly where there is none.
 #![tactic(auto)]
 
 mod flow_lines;

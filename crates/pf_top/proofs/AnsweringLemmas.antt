@@ -1,9 +1,9 @@
 -- The network of the bytes, the point, and what the bytes then ask.
-use Rattle.std.proofs.Common.{◌≡◌, ℕ, ◌+◌, ◌≤◌, ◌^◌, Bool, true, false, List, [], ◌∷◌, length, Result, Ok, Err, refl, sym, ◌∙◌, inl, inr, arith}
+use Rattle.std.proofs.Common.{◌≡◌, ℕ, ◌+◌, ◌≤◌, ◌^◌, Bool, true, false, List, [], ◌∷◌, length, Result, Ok, Err, refl, sym, ◌∙◌, inl, inr}
 use Rattle.std.specs.Prelude.{◌⊎◌, ◌||◌}
 use Rattle.pf_model.specs.Fraction.{Fraction, IsParameter, IsBelow, IsEqual, is_below}
 use Rattle.pf_model.specs.Network.{Network}
-use Rattle.pf_model.specs.Answer.{Point, Curve, IsPointShape, IsCurveShape}
+use Rattle.pf_model.specs.Answer.{Point, Curve}
 use Rattle.pf_model.proofs.Lowest.{below_test, below_equal, equal_below}
 use Rattle.pf_text.specs.declared.TextBad.{TextBad}
 use Rattle.pf_text.specs.declared.TextBad.TheVariants.{Syntax}
