@@ -1,4 +1,5 @@
 //! Texts of the kind `par`, which give a monotone parametric network, and the texts of the answers to `at` and `curve`.
+//! The text of a curve is also read back.
 //!
 //! Proved: `read_par` gives exactly the network of the definition, or exactly its first refusal,
 //! and leaves the reader of lines behind the line that decided. `write_at` and `write_curve` print
