@@ -4,18 +4,18 @@ use Rattle.pf_model.specs.Fraction.{Fraction}
 use Rattle.pf_model.specs.Flow.{IsFlow}
 use Rattle.pf_model.specs.Graph.{Graph}
 use Rattle.pf_model.specs.Network.{Network, capacity_at, network_at}
-use Rattle.pf_frame.specs.Numbers.{IsBounded}
-use Rattle.pf_frame.proofs.FlowTest.{bounded_of_flow}
+use Rattle.pf_frame.specs.Numbers.{IsBounded, IsSized}
+use Rattle.pf_frame.proofs.FlowTest.{bounded_of_flow, sized_of_bounded}
 use Rattle.pf_net.specs.Limits.{graph_of}
 use Rattle.pf_plain.proofs.beside.values_agree.Goals as goal
 
 -- a flow at a parameter is within the bounds of the capacities there
-bounded_here : (net : Network) (x : Fraction) (frame : Graph) (caps flow : List ℤ) → frame ≡ graph_of net → caps ≡ map (capacity_at x) net.arcs →
-    IsBounded (graph_of net) caps → IsFlow (network_at net x) flow → IsBounded frame flow
-bounded_here net x frame caps flow is_frame is_caps bounded f =
-    rw is_frame (bounded_of_flow (graph_of net) (map (capacity_at x) net.arcs) flow net.source net.sink (rw is_caps at bounded) f.within)
+sized_here : (net : Network) (x : Fraction) (frame : Graph) (caps flow : List ℤ) → frame ≡ graph_of net → caps ≡ map (capacity_at x) net.arcs →
+    IsBounded (graph_of net) caps → IsFlow (network_at net x) flow → IsSized frame flow
+sized_here net x frame caps flow is_frame is_caps bounded f =
+    rw is_frame (sized_of_bounded (graph_of net) flow (bounded_of_flow (graph_of net) (map (capacity_at x) net.arcs) flow net.source net.sink (rw is_caps at bounded) f.within))
 
 pub value-requires-2-clause-flow : goal.value-requires-2-clause-flow
 value-requires-2-clause-flow c =
-    bounded_here c.args.net.now c.args.at.now c.frame-frame.result.now c.caps_at.new.caps c.args.labelled.now c.frame-frame.ensures.frame
+    sized_here c.args.net.now c.args.at.now c.frame-frame.result.now c.caps_at.new.caps c.args.labelled.now c.frame-frame.ensures.frame
     c.caps_at.ensures.capacities c.caps_at.ensures.bounded c.requires.labelled
