@@ -1,4 +1,4 @@
--- What a network and a point have to do with the bytes that they are made from.
+-- What networks and answers have to do with the bytes that they are made from.
 use Rattle.std.specs.Prelude.{◌≡◌, ◌≢◌, ◌↔◌, ℕ, ◌+◌, Bool, true, false, not, List, [], Some, Ok, Err}
 use Rattle.pf_model.specs.Fraction.{Fraction, lowest}
 use Rattle.pf_model.specs.Network.{Network}
@@ -35,13 +35,6 @@ pub record IsBadText (before : Place) (refusal : Refusal) : Type 0 where
   pub bad : TextBad
   pub judged : problem_of_lines par (lines_left before) ≡ Err bad
   pub same : refusal ≡ Text bad
-
--- the text is that of the network, with these bytes behind it
-pub record IsNetworkBefore (bytes rest : List ℕ) (net : Network) : Type 0 where
-  pub read : Accepted Network
-  pub text : problem_of par bytes ≡ Ok read
-  pub same : read.problem ≡ net
-  pub behind : read.rest ≡ rest
 
 -- the text is that of the network, with no line behind it
 pub record IsNetworkOf (bytes : List ℕ) (net : Network) : Type 0 where
