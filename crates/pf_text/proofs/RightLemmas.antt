@@ -1,38 +1,28 @@
 -- Verdicts on texts of curves.
 use Rattle.std.proofs.Common.{◌≡◌, ℕ, Bool, true, false, List, refl, sym, ap, subst, ◌∙◌}
-use Rattle.std.specs.Prelude.{◌↔◌, not}
+use Rattle.std.specs.Prelude.{◌↔◌}
 use Rattle.pf_model.specs.Network.{Network, IsMonotone}
 use Rattle.pf_model.specs.Curve.{CertifiesCurve}
 use Rattle.pf_model.specs.Answer.{Curve, IsCurveShape}
 use Rattle.pf_model.proofs.Certificate.{certified_is_curve}
 use Rattle.pf_text.specs.Answers.{curve_text, verdict_text}
-use Rattle.pf_text.specs.Asked.{check_curve}
-use Rattle.pf_text.specs.Right.{IsRightCurve, IsCertifiedCurve, IsRightCheck, SaysNo}
-use Rattle.pf_text.proofs.SameAnswers.{same_verdict}
+use Rattle.pf_text.specs.Right.{IsRightCurve, IsCertifiedCurve, IsRightCheck}
 use Rattle.pf_text.proofs.SameCurves.{same_curve}
 
 abbrev Holds : Network → Curve → Type 0
 Holds net curve = CertifiesCurve net curve.points curve.cuts curve.flows
 
--- the text behind the problem is that of a curve of the right shape: the verdict is whether its certificate holds
-pub verdict_on_curve : (net : Network) (rest : List ℕ) (curve : Curve) (verdict : Bool) → IsCurveShape net curve → rest ≡ curve_text net curve
-    → (verdict ≡ true) ↔ CertifiesCurve net curve.points curve.cuts curve.flows → IsRightCheck net rest (verdict_text verdict)
-verdict_on_curve net rest curve verdict shape text_is exact = record {
-  verdict = verdict;
-  exact = (
-    λ yes'. record { curve = curve; shape = shape; certificate = exact.0 yes'; text_is = text_is },
-    λ certified. exact.1 (subst (Holds net) (same_curve net certified.curve curve certified.shape shape (sym certified.text_is ∙ text_is)) certified.certificate),
-  );
-  text_is = refl;
-}
+-- the text is that of a curve of the right shape: it is certified where that curve is
+pub certified_text : (net : Network) (text : List ℕ) (curve : Curve) (holds : Bool) → IsCurveShape net curve → text ≡ curve_text net curve
+    → (holds ≡ true) ↔ CertifiesCurve net curve.points curve.cuts curve.flows → (holds ≡ true) ↔ IsCertifiedCurve net text
+certified_text net text curve holds shape text_is exact = (
+  λ yes'. record { curve = curve; shape = shape; certificate = exact.0 yes'; text_is = text_is },
+  λ certified. exact.1 (subst (Holds net) (same_curve net certified.curve curve certified.shape shape (sym certified.text_is ∙ text_is)) certified.certificate),
+)
 
 -- it is the text of no such curve
-pub verdict_on_other : (net : Network) (rest : List ℕ) → ((curve : Curve) → IsCurveShape net curve → rest ≡ curve_text net curve → ⊥) → IsRightCheck net rest (verdict_text false)
-verdict_on_other net rest none = record {
-  verdict = false;
-  exact = (λ same. absurd cc, λ certified. absurd (none certified.curve certified.shape certified.text_is));
-  text_is = refl;
-}
+pub no_text : (net : Network) (text : List ℕ) → ((curve : Curve) → IsCurveShape net curve → text ≡ curve_text net curve → ⊥) → (false ≡ true) ↔ IsCertifiedCurve net text
+no_text net text none = (λ same. absurd cc, λ certified. absurd (none certified.curve certified.shape certified.text_is))
 
 equal_tests : (a b : Bool) → (a ≡ true → b ≡ true) → (b ≡ true → a ≡ true) → a ≡ b
 equal_tests true b f g = sym (f refl)
@@ -43,11 +33,6 @@ equal_tests false false f g = refl
 pub one_verdict : (net : Network) (rest text other : List ℕ) → IsRightCheck net rest text → IsRightCheck net rest other → text ≡ other
 one_verdict net rest text other a b =
     a.text_is ∙ ap verdict_text (equal_tests a.verdict b.verdict (λ t. b.exact.1 (a.exact.0 t)) (λ t. a.exact.1 (b.exact.0 t))) ∙ sym b.text_is
-
--- the verdict says `no` exactly where it is not `yes`
-pub verdict_says_no : (holds : Bool) → (not holds ≡ true) ↔ SaysNo check_curve (verdict_text holds)
-verdict_says_no true = (λ e. absurd cc, λ e. absurd (let same = same_verdict true false e in cc))
-verdict_says_no false = (λ e. refl, λ e. refl)
 
 -- the certificate is all that a right answer to `curve` has
 pub certified_is_right : (net : Network) (text : List ℕ) → IsMonotone net → IsCertifiedCurve net text ↔ IsRightCurve net text

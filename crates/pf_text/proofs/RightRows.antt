@@ -18,8 +18,7 @@ use Rattle.pf_model.proofs.Duality.{smallest_from_reach}
 use Rattle.pf_model.proofs.FlowTest.{flow_from_test}
 use Rattle.pf_model.proofs.Lowest.{lowest_is}
 use Rattle.pf_text.specs.Answers.{point_text, curve_text, sweep_text, verdict_text}
-use Rattle.pf_text.specs.Asked.{at, network}
-use Rattle.pf_text.specs.Right.{sweep_parameter, row_at, IsRightCurve, IsRightRow, IsRightSweep, IsRightCheck, IsRight}
+use Rattle.pf_text.specs.Right.{sweep_parameter, row_at, IsRightCurve, IsRightRow, IsRightSweep, IsRightCheck, IsRightPoint}
 use Rattle.pf_text.proofs.ParLaw.{accepted_is_monotone}
 use Rattle.pf_text.proofs.Rows.{text, two_lines, two, two_is_read}
 
@@ -103,7 +102,7 @@ flow_shape n small = record {
 
 -- ---- at 08/2
 
-at_is_right : IsRight (at (record { p = pos 8; q = pos 2 })) (network two) []
+at_is_right : IsRightPoint (lowest (record { p = pos 8; q = pos 2 })) two
     (text (codes "o at" ∷ codes "b 4 1 4" ∷ codes "s 0 1 100" ∷ codes "f 4 4" ∷ codes "end" ∷ []))
 unfolding text digits point_text lowest
 at_is_right = record {

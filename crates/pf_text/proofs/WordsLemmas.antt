@@ -1,32 +1,12 @@
--- Which command words ask for.
+-- A parameter is read from its two parts.
 use Rattle.std.proofs.Common.{◌≡◌, ℕ, suc, ◌+◌, ◌<◌, ◌≤◌, Bool, true, false, eqb, List, [], ◌∷◌, length, take, drop, Option, Some, None, add-one, refl, ap, ◌∙◌, arith}
 use Rattle.std.specs.Prelude.{pos, neg_ℤ}
 use Rattle.std.specs.List.{position, position_or_len}
 use Rattle.pf_model.specs.Fraction.{Fraction}
 use Rattle.pf_text.specs.Numbers.{natural_of, whole_of}
 use Rattle.pf_text.specs.Par.{billion}
-use Rattle.pf_text.specs.Asked.{split_at_slash, natural_within, integer_within, fraction_of_numbers, parameter_of, one_word, two_words, command_of}
+use Rattle.pf_text.specs.Words.{split_at_slash, natural_within, integer_within, fraction_of_numbers, parameter_of}
 use Rattle.pf_text.proofs.LinesLemmas.{at_position, no_position}
-
--- ---- the number of words
-
-pub command_of_no_word : command_of [] ≡ None
-unfolding command_of
-command_of_no_word = refl
-
-pub command_of_one : (first : List ℕ) → command_of (first ∷ []) ≡ one_word first
-unfolding command_of
-command_of_one first = refl
-
-pub command_of_two : (first second : List ℕ) → command_of (first ∷ second ∷ []) ≡ two_words first second
-unfolding command_of
-command_of_two first second = refl
-
-pub command_of_many : (first second third : List ℕ) (others : List (List ℕ)) → command_of (first ∷ second ∷ third ∷ others) ≡ None
-unfolding command_of
-command_of_many first second third others = refl
-
--- ---- a parameter
 
 -- where the first slash stands
 abbrev slash : List ℕ → ℕ

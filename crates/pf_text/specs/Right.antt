@@ -1,18 +1,21 @@
--- Which texts are right answers to what was asked.
-use Rattle.std.specs.Prelude.{◌≡◌, ◌↔◌, ℕ, ◌+◌, ◌<◌, Bool, true, false, List, length, slice_index_or, pos, ◌+ℤ◌, ◌-ℤ◌, ◌*ℤ◌}
-use Rattle.pf_model.specs.Fraction.{Fraction, lowest}
+-- What is refused of networks, and which texts are right answers.
+use Rattle.std.specs.Prelude.{◌≡◌, ◌↔◌, ℕ, ◌+◌, ◌^◌, ◌<◌, Bool, true, ◌||◌, List, length, slice_index_or, pos, ◌+ℤ◌, ◌-ℤ◌, ◌*ℤ◌, int_lt}
+use Rattle.pf_model.specs.Fraction.{Fraction, is_below, lowest}
 use Rattle.pf_model.specs.Cut.{IsLeastValue, IsLeastSize}
 use Rattle.pf_model.specs.Network.{Network, network_at}
 use Rattle.pf_model.specs.Curve.{IsPoint, IsCurve, CertifiesCurve}
 use Rattle.pf_model.specs.Answer.{Point, Curve, Row, IsPointShape, IsCurveShape, IsRowShape}
 use Rattle.pf_text.specs.Answers.{point_text, curve_text, sweep_text, verdict_text}
-use Rattle.pf_text.specs.Asked.{Command, at, curve, check_curve, Problem, network}
 
--- `at`: the smallest least cut at the parameter, in lowest terms, and a flow whose value is its capacity
+-- the parameter lies outside the network's interval
+abbrev pub is_outside : Fraction → Network → Bool
+is_outside x net = is_below x net.low || is_below net.high x
+
+-- `at`: the smallest least cut at the parameter, and a flow whose value is its capacity
 pub record IsRightPoint (x : Fraction) (net : Network) (text : List ℕ) : Type 0 where
   pub point : Point
   pub shape : IsPointShape net point
-  pub parameter : point.at ≡ lowest x
+  pub parameter : point.at ≡ x
   pub best : IsPoint net point.at point.side point.flow
   pub text_is : text ≡ point_text net point
 
@@ -23,6 +26,10 @@ pub record IsRightCurve (net : Network) (text : List ℕ) : Type 0 where
   pub best : IsCurve net curve.points curve.cuts
   pub certificate : CertifiesCurve net curve.points curve.cuts curve.flows
   pub text_is : text ≡ curve_text net curve
+
+-- the parameters of a sweep of k steps would have too large a denominator
+abbrev pub is_too_fine : ℕ → Network → Bool
+is_too_fine k net = int_lt (pos (2 ^ 40)) ((net.low.q *ℤ net.high.q) *ℤ pos k)
 
 -- the parameter L + (H - L) j / k of the interval from L to H, in lowest terms
 abbrev pub sweep_parameter : Network → ℕ → ℕ → Fraction
@@ -65,15 +72,3 @@ pub record IsCertifiedCurve (net : Network) (text : List ℕ) : Type 0 where
 -- `check curve`: whether the text behind the problem is that of a certified curve
 abbrev pub IsRightCheck : Network → List ℕ → List ℕ → Type 0
 IsRightCheck net rest text = IsRightVerdict (IsCertifiedCurve net rest) text
-
--- The text is that of a right answer to the command for this problem, with this text behind it.
-abbrev pub IsRight : Command → Problem → List ℕ → List ℕ → Type 0
-IsRight (at x) (network net) rest text = IsRightPoint x net text
-IsRight curve (network net) rest text = IsRightCurve net text
-IsRight check_curve (network net) rest text = IsRightCheck net rest text
-
--- the command asks for a verdict, and the text is that of `no`
-abbrev pub SaysNo : Command → List ℕ → Type 0
-SaysNo (at x) text = ⊥
-SaysNo curve text = ⊥
-SaysNo check_curve text = text ≡ verdict_text false

@@ -1,146 +1,75 @@
--- The network of the bytes, the point, and what the bytes then ask.
-use Rattle.std.proofs.Common.{◌≡◌, ℕ, ◌+◌, ◌≤◌, ◌^◌, Bool, true, false, List, [], ◌∷◌, length, Result, Ok, Err, refl, sym, ◌∙◌, inl, inr}
-use Rattle.std.specs.Prelude.{◌⊎◌, ◌||◌, not}
-use Rattle.pf_model.specs.Fraction.{Fraction, IsParameter, IsBelow, IsEqual, is_below}
-use Rattle.pf_model.specs.Network.{Network}
-use Rattle.pf_model.specs.Answer.{Point, Curve}
-use Rattle.pf_model.proofs.Lowest.{below_test, below_equal, equal_below}
+-- What bytes ask of a command, and what it makes of them.
+use Rattle.std.proofs.Common.{◌≡◌, ◌≢◌, ℕ, ◌+◌, ◌≤◌, ◌^◌, List, [], ◌∷◌, length, Option, Some, None, Result, Ok, Err, refl, ◌∙◌}
+use Rattle.std.proofs.lemmas.Bool.{le-ltb}
 use Rattle.pf_text.specs.declared.TextBad.{TextBad}
 use Rattle.pf_text.specs.declared.TextBad.TheVariants.{Syntax}
-use Rattle.pf_text.specs.declared.Refusal.TheVariants.{Text, Outside}
+use Rattle.pf_text.specs.declared.Refusal.{Refusal}
+use Rattle.pf_text.specs.declared.Refusal.TheVariants.{Text, TooLong}
 use Rattle.pf_text.specs.Lines.{Line, lines_from}
 use Rattle.pf_text.specs.Kinds.{Accepted, problem_of_lines, problem_of}
-use Rattle.pf_text.specs.Par.{par}
-use Rattle.pf_text.specs.Asked.{Command, at, curve, check_curve, network, is_outside, takes_answer}
-use Rattle.pf_text.proofs.AskedLemmas.{asked_bad, asked_behind, asked_refused, asked_accepted, problem_for_par, problem_for_par_bad, line_behind}
-use Rattle.pf_text.proofs.ParLaw.{accepted_is_monotone}
-use Rattle.pf_text.proofs.RightLemmas.{verdict_says_no}
-use Rattle.pf_text.specs.Right.{IsRightCheck}
 use Rattle.pf_lines.specs.Places.{Place, lines_left}
 use Rattle.pf_lines.specs.declared.errors.ReadBad.{ReadBad}
 use Rattle.pf_lines.specs.declared.errors.ReadBad.TheVariants as reads
-use Rattle.pf_text.specs.declared.Refusal.{Refusal}
 use Rattle.pf_par.specs.Reading.{Agrees}
-use Rattle.pf_text.specs.Answers.{point_text, curve_text, verdict_text}
-use Rattle.pf_top.specs.Answering.{IsBadText, IsReadTo, IsRefused, IsNetworkOf, IsPointAt, IsCurveOf, IsMade}
+use Rattle.pf_top.specs.Task.{Name, task_of, ProblemOf, Command, answer, check, name_of}
+use Rattle.pf_top.specs.Asked.{refused, accepted, asked_of_read, asked_of_bytes}
+use Rattle.pf_top.specs.Answering.{IsBadText, IsReadTo, IsRefused, IsProblemOf}
 
--- ---- the parameter and the interval
+-- bytes that are not too many
+asks_read : (command : Command) (bytes : List ℕ) → length bytes ≤ 2 ^ 29
+    → asked_of_bytes command bytes ≡ asked_of_read command (problem_of (task_of (name_of command)).kind bytes)
+asks_read command bytes short = rw (le-ltb (2 ^ 29) (length bytes) short) refl
 
-either_true : (a b : Bool) → (a ≡ true) ⊎ (b ≡ true) → (a || b) ≡ true
-either_true true b h = refl
-either_true false true h = refl
-either_true false false h = elim h [ inl e ↦ absurd cc | inr e ↦ absurd cc ]
+-- a place that is the begin of the bytes
+abbrev Begins : Place → List ℕ → Type 0
+Begins start bytes = start ≡ record { number = 0; rest = bytes }
 
-both_false : (a b : Bool) → (a ≡ true → ⊥) → (b ≡ true → ⊥) → (a || b) ≡ false
-both_false true b f g = absurd (f refl)
-both_false false true f g = absurd (g refl)
-both_false false false f g = refl
+pub read_to : {P : Type 0} (name : Name) (view : P → ProblemOf name) (before after : Place) (r : Result P ReadBad) (p : P)
+    → Agrees (problem_of_lines (task_of name).kind (lines_left before)) (λ p. record { problem = view p; rest = after.rest; line = after.number }) r → r ≡ Ok p
+    → IsReadTo name before after (view p)
+read_to name view before after r p judged e = record { judged = rw e at judged }
 
--- y is the parameter x in lowest terms
-pub found_outside : (x y : Fraction) (net : Network) → IsParameter x → IsParameter y → IsParameter net.low → IsParameter net.high → IsEqual y x
-    → IsBelow y net.low ⊎ IsBelow net.high y → is_outside x net ≡ true
-found_outside x y net px py pl ph e out = either_true (is_below x net.low) (is_below net.high x)
-    (elim out [
-      | inl below ↦ inl ((below_test x net.low).1 (equal_below x y net.low px py pl (sym e) below))
-      | inr above ↦ inr ((below_test net.high x).1 (below_equal net.high y x ph py px above e))
-    ])
+pub bad_text : {P : Type 0} (name : Name) (value : P → Accepted (ProblemOf name)) (before : Place) (r : Result P ReadBad) (bad : TextBad) (refusal : Refusal)
+    → Agrees (problem_of_lines (task_of name).kind (lines_left before)) value r → r ≡ Err (reads.Text bad) → refusal ≡ Text bad → IsBadText name before refusal
+bad_text name value before r bad refusal judged e same = record { bad = bad; judged = rw e at judged; same = same }
 
-pub found_inside : (x y : Fraction) (net : Network) → IsParameter x → IsParameter y → IsParameter net.low → IsParameter net.high → IsEqual y x
-    → (IsBelow y net.low ⊎ IsBelow net.high y → ⊥) → is_outside x net ≡ false
-found_inside x y net px py pl ph e inside = both_false (is_below x net.low) (is_below net.high x)
-    (λ below. inside (inl (equal_below y x net.low py px pl e ((below_test x net.low).0 below))))
-    (λ above. inside (inr (below_equal net.high x y ph px py ((below_test net.high x).0 above) (sym e))))
-
--- ---- the network
-
-pub network_bad : (bytes : List ℕ) (bad : TextBad) (command : Command) → length bytes ≤ 2 ^ 29 → problem_of_lines par (lines_from 1 bytes) ≡ Err bad → IsRefused command bytes (Text bad)
+-- a text that is refused
+pub refused_text : (command : Command) (bytes : List ℕ) (start : Place) (refusal : Refusal) → length bytes ≤ 2 ^ 29 → Begins start bytes → IsBadText (name_of command) start refusal → IsRefused command bytes refusal
 unfolding problem_of
-network_bad bytes bad command short judged = record {
-  asks = λ words some. asked_bad words bytes command bad some short (problem_for_par_bad command bytes bad judged);
+refused_text command bytes start refusal short begins b = rw b.same (record {
+  asks = asks_read command bytes short ∙ rw (rw begins at b.judged) refl;
   short = λ e. cc;
-}
+})
 
-pub network_found : (bytes : List ℕ) (read : Accepted Network) → problem_of_lines par (lines_from 1 bytes) ≡ Ok read → lines_from (read.line + 1) read.rest ≡ [] → IsNetworkOf bytes read.problem
+-- a line behind the problem
+pub refused_line : (name : Name) (bytes : List ℕ) (start after : Place) (problem : ProblemOf name) (line : Line) (later : List Line) (refusal : Refusal) → length bytes ≤ 2 ^ 29
+    → Begins start bytes → IsReadTo name start after problem → lines_left after ≡ line ∷ later → Text (Syntax line.number) ≡ refusal → IsRefused (answer name) bytes refusal
 unfolding problem_of
-network_found bytes read judged alone = record { read = read; text = judged; same = refl; alone = alone }
-
-network_behind : (bytes : List ℕ) (read : Accepted Network) (line : Line) (later : List Line) (command : Command) → length bytes ≤ 2 ^ 29 → takes_answer command ≡ false
-    → problem_of_lines par (lines_from 1 bytes) ≡ Ok read → lines_from (read.line + 1) read.rest ≡ line ∷ later → IsRefused command bytes (Text (Syntax line.number))
-unfolding problem_of
-network_behind bytes read line later command short plain judged behind = record {
-  asks = λ words some. asked_behind words bytes command (record { problem = network read.problem; rest = read.rest; line = read.line }) (Text (Syntax line.number)) some short
-      (problem_for_par command bytes read judged) (line_behind command (record { problem = network read.problem; rest = read.rest; line = read.line }) line later plain behind);
+refused_line name bytes start after problem line later refusal short begins r behind same = rw (← same) (record {
+  asks = asks_read (answer name) bytes short ∙ rw (rw begins at r.judged, behind) refl;
   short = λ e. cc;
-}
+})
 
--- the same, as the code reads the lines
-
-pub read_to : (before after : Place) (r : Result Network ReadBad) (net : Network) → Agrees (problem_of_lines par (lines_left before)) (λ net. record { problem = net; rest = after.rest; line = after.number }) r → r ≡ Ok net
-    → IsReadTo before after net
-read_to before after r net judged e = record { judged = rw e at judged }
-
-pub bad_text : (before : Place) (value : Network → Accepted Network) (r : Result Network ReadBad) (bad : TextBad) (refusal : Refusal) → Agrees (problem_of_lines par (lines_left before)) value r → r ≡ Err (reads.Text bad) → refusal ≡ Text bad
-    → IsBadText before refusal
-bad_text before value r bad refusal judged e same = record { bad = bad; judged = rw e at judged; same = same }
-
-pub network_refused : (bytes : List ℕ) (start : Place) (refusal : Refusal) (command : Command) → length bytes ≤ 2 ^ 29 → start ≡ record { number = 0; rest = bytes } → IsBadText start refusal → IsRefused command bytes refusal
-network_refused bytes start refusal command short begins b = rw b.same (network_bad bytes b.bad command short (rw begins at b.judged))
-
-pub network_made : (bytes : List ℕ) (start after : Place) (net : Network) → start ≡ record { number = 0; rest = bytes } → IsReadTo start after net → lines_left after ≡ [] → IsNetworkOf bytes net
-network_made bytes start after net begins r alone = network_found bytes (record { problem = net; rest = after.rest; line = after.number }) (rw begins at r.judged) alone
-
-pub network_followed : (bytes : List ℕ) (start after : Place) (net : Network) (line : Line) (later : List Line) (refusal : Refusal) (command : Command) → length bytes ≤ 2 ^ 29
-    → start ≡ record { number = 0; rest = bytes } → IsReadTo start after net → lines_left after ≡ line ∷ later → Text (Syntax line.number) ≡ refusal → takes_answer command ≡ false → IsRefused command bytes refusal
-network_followed bytes start after net line later refusal command short begins r behind same plain =
-    rw (← same) (network_behind bytes (record { problem = net; rest = after.rest; line = after.number }) line later command short plain (rw begins at r.judged) behind)
-
--- ---- the point
-
-pub network_low : (bytes : List ℕ) (net : Network) → IsNetworkOf bytes net → IsParameter net.low
-network_low bytes net n = rw n.same at (accepted_is_monotone bytes n.read n.text).low
-
-pub network_high : (bytes : List ℕ) (net : Network) → IsNetworkOf bytes net → IsParameter net.high
-network_high bytes net n = rw n.same at (accepted_is_monotone bytes n.read n.text).high
-
-pub asks_outside : (x : Fraction) (bytes : List ℕ) (net : Network) → length bytes ≤ 2 ^ 29 → IsNetworkOf bytes net → is_outside x net ≡ true → IsRefused (at x) bytes Outside
-asks_outside x bytes net short n out = record {
-  asks = λ words some. asked_refused words bytes (at x) (record { problem = network n.read.problem; rest = n.read.rest; line = n.read.line }) Outside some short
-      (problem_for_par (at x) bytes n.read n.text) (rw n.alone refl) (rw (n.same, out) refl);
-  short = λ e. cc;
-}
-
--- the answer at a parameter
-pub made_point : (x : Fraction) (bytes : List ℕ) (net : Network) (point : Point) → length bytes ≤ 2 ^ 29 → IsNetworkOf bytes net → is_outside x net ≡ false → IsPointAt x net point
-    → IsMade (at x) bytes (point_text net point) false
-made_point x bytes net point short n inside best = record {
-  problem = network net;
-  rest = n.read.rest;
-  asks = λ words some. asked_accepted words bytes (at x) (record { problem = network n.read.problem; rest = n.read.rest; line = n.read.line }) some short
-      (problem_for_par (at x) bytes n.read n.text) (rw n.alone refl) (rw (n.same, inside) refl) ∙ rw n.same refl;
-  right = record { point = point; shape = best.shape; parameter = best.parameter; best = best.best; text_is = refl };
-  verdict = (λ e. absurd cc, λ f. absurd f);
-}
-
--- the answer for the whole interval
-pub made_curve : (bytes : List ℕ) (net : Network) (whole : Curve) → length bytes ≤ 2 ^ 29 → IsNetworkOf bytes net → IsCurveOf net whole → IsMade curve bytes (curve_text net whole) false
-made_curve bytes net whole short n best = record {
-  problem = network net;
-  rest = n.read.rest;
-  asks = λ words some. asked_accepted words bytes curve (record { problem = network n.read.problem; rest = n.read.rest; line = n.read.line }) some short
-      (problem_for_par curve bytes n.read n.text) (rw n.alone refl) refl ∙ rw n.same refl;
-  right = record { curve = whole; shape = best.shape; best = best.best; certificate = best.certificate; text_is = refl };
-  verdict = (λ e. absurd cc, λ f. absurd f);
-}
-
--- the verdict on the text behind the problem
-pub made_verdict : (bytes : List ℕ) (start after : Place) (net : Network) (holds : Bool) → length bytes ≤ 2 ^ 29 → start ≡ record { number = 0; rest = bytes } → IsReadTo start after net
-    → IsRightCheck net after.rest (verdict_text holds) → IsMade check_curve bytes (verdict_text holds) (not holds)
+pub problem_alone : (name : Name) (bytes : List ℕ) (start after : Place) (problem : ProblemOf name) → Begins start bytes → IsReadTo name start after problem → lines_left after ≡ []
+    → IsProblemOf name bytes problem
 unfolding problem_of
-made_verdict bytes start after net holds short begins r right = record {
-  problem = network net;
-  rest = after.rest;
-  asks = λ words some. asked_accepted words bytes check_curve (record { problem = network net; rest = after.rest; line = after.number }) some short
-      (problem_for_par check_curve bytes (record { problem = net; rest = after.rest; line = after.number }) (rw begins at r.judged)) refl refl;
-  right = right;
-  verdict = verdict_says_no holds;
+problem_alone name bytes start after problem begins r alone = record { rest = after.rest; line = after.number; text = rw begins at r.judged; alone = alone }
+
+-- a problem that is refused
+pub refused_problem : (name : Name) (bytes : List ℕ) (problem : ProblemOf name) (refusal : Refusal) → length bytes ≤ 2 ^ 29 → IsProblemOf name bytes problem
+    → (task_of name).refusal problem ≡ Some refusal → refusal ≢ TooLong → IsRefused (answer name) bytes refusal
+refused_problem name bytes problem refusal short p refuses other = record {
+  asks = asks_read (answer name) bytes short ∙ rw (p.text, p.alone, refuses) refl;
+  short = other;
 }
+
+-- a problem that is not refused
+pub accepted_problem : (name : Name) (bytes : List ℕ) (problem : ProblemOf name) → length bytes ≤ 2 ^ 29 → (p : IsProblemOf name bytes problem)
+    → (task_of name).refusal problem ≡ None → asked_of_bytes (answer name) bytes ≡ accepted (answer name) problem p.rest
+accepted_problem name bytes problem short p passed = asks_read (answer name) bytes short ∙ rw (p.text, p.alone, passed) refl
+
+-- a problem with the text behind it
+pub accepted_behind : (name : Name) (bytes : List ℕ) (start after : Place) (problem : ProblemOf name) → length bytes ≤ 2 ^ 29 → Begins start bytes → IsReadTo name start after problem
+    → asked_of_bytes (check name) bytes ≡ accepted (check name) problem after.rest
+unfolding problem_of
+accepted_behind name bytes start after problem short begins r = asks_read (check name) bytes short ∙ rw (rw begins at r.judged) refl

@@ -5,16 +5,13 @@ use Rattle.std.specs.Option.{option_map}
 use Rattle.std.specs.Int.{w64}
 use Rattle.std.proofs.lemmas.Int.{ints}
 use Rattle.std.proofs.lemmas.Bool.Decides.{nat_tests}
-use Rattle.pf_model.specs.Fraction.{IsBoundedFraction}
+use Rattle.pf_model.specs.Fraction.{IsBoundedFraction, lowest}
 use Rattle.pf_text.specs.Numbers.{natural_of, whole_of}
 use Rattle.pf_text.specs.Par.{billion}
-use Rattle.pf_text.specs.Asked.{natural_within, integer_within, fraction_of_numbers, at, one_word, two_words, command_of}
+use Rattle.pf_text.specs.Words.{natural_within, integer_within, fraction_of_numbers}
+use Rattle.pf_top.specs.Asked.{one_word, two_words, command_of}
 use Rattle.pf_text.proofs.NumbersLemmas.{whole_of-minus, whole_of-plain, natural_of-others}
-use Rattle.pf_text.proofs.WordsLemmas.{command_of_no_word, command_of_one, command_of_two, command_of_many}
-use Rattle.pf_top.specs.declared.words.Parameter.{Parameter}
-use Rattle.pf_top.specs.declared.words.Request.{Request}
-use Rattle.pf_top.specs.declared.words.Request.TheVariants.{At}
-use Rattle.pf_top.specs.Words.{word_bytes, fraction_of_parts, fraction_of_parameter, command_of_request}
+use Rattle.pf_top.specs.Words.{word_bytes, fraction_of_parts}
 use Rattle.std.specs.String.{string_bytes}
 use Rattle.std.specs.declared.string.String.{String}
 use Rattle.std.specs.declared.alloc.Global.{Global}
@@ -90,16 +87,16 @@ natural_missing field bad e =
 
 -- the fraction of two fields that are numbers of the ranges
 pub fraction_found : (front back : List ℕ) (p q : ℤ) → Ok p ≡ within_range (neg_ℤ (pos billion)) (pos billion) (whole_of front) → Ok q ≡ within_range (pos 1) (pos billion) (whole_of back)
-    → fraction_of_parts front back ≡ Some (record { p = p; q = q })
+    → fraction_of_parts front back ≡ Some (lowest (record { p = p; q = q }))
 fraction_found front back p q numerator denominator =
     let n = natural_found back q denominator in
     let first : integer_within (neg_ℤ (pos billion)) (pos billion) (whole_of front) ≡ Some p = integer_found (neg_ℤ (pos billion)) (pos billion) p (whole_of front) numerator in
     found n.0 n.1 n.2 first
   where
     found : (k : ℕ) → natural_within 1 billion (natural_of back) ≡ Some k → q ≡ pos k → integer_within (neg_ℤ (pos billion)) (pos billion) (whole_of front) ≡ Some p
-        → fraction_of_parts front back ≡ Some (record { p = p; q = q })
-    found k second same first = let both : fraction_of_parts front back ≡ Some (record { p = p; q = pos k }) = rw (first, second) refl in
-        both ∙ ap (λ (z : ℤ). Some (record { p = p; q = z })) (sym same)
+        → fraction_of_parts front back ≡ Some (lowest (record { p = p; q = q }))
+    found k second same first = let both : fraction_of_parts front back ≡ Some (lowest (record { p = p; q = pos k })) = rw (first, second) refl in
+        both ∙ ap (λ (z : ℤ). Some (lowest (record { p = p; q = z }))) (sym same)
 
 pub fraction_bounds : (front back : List ℕ) (p q : ℤ) → Ok p ≡ within_range (neg_ℤ (pos billion)) (pos billion) (whole_of front) → Ok q ≡ within_range (pos 1) (pos billion) (whole_of back)
     → IsBoundedFraction (record { p = p; q = q })
@@ -117,7 +114,7 @@ fraction_no_front front back bad e = rw (integer_missing (neg_ℤ (pos billion))
 
 -- the same, of numbers of 64 bits
 pub fraction_stored : (front back : List ℕ) (p q : ℤ) → Ok p ≡ within_range (neg_ℤ (pos billion)) (pos billion) (whole_of front) → Ok q ≡ within_range (pos 1) (pos billion) (whole_of back)
-    → fraction_of_parts front back ≡ Some (record { p = to_z w64 (of_z w64 p); q = to_z w64 (of_z w64 q) })
+    → fraction_of_parts front back ≡ Some (lowest (record { p = to_z w64 (of_z w64 p); q = to_z w64 (of_z w64 q) }))
 fraction_stored front back p q numerator denominator =
     let n = in_range (neg_ℤ (pos billion)) (pos billion) (whole_of front) p numerator in
     let low = n.1 in
@@ -137,6 +134,22 @@ pub fraction_no_back : (front back : List ℕ) (bad : Bad) → Err bad ≡ withi
 fraction_no_back front back bad e = rw (natural_missing back bad e) (none_behind (integer_within (neg_ℤ (pos billion)) (pos billion) (whole_of front)))
 
 -- ---- the number of words
+
+command_of_no_word : command_of [] ≡ None
+unfolding command_of
+command_of_no_word = refl
+
+command_of_one : (first : List ℕ) → command_of (first ∷ []) ≡ one_word first
+unfolding command_of
+command_of_one first = refl
+
+command_of_two : (first second : List ℕ) → command_of (first ∷ second ∷ []) ≡ two_words first second
+unfolding command_of
+command_of_two first second = refl
+
+command_of_many : (first second third : List ℕ) (others : List (List ℕ)) → command_of (first ∷ second ∷ third ∷ others) ≡ None
+unfolding command_of
+command_of_many first second third others = refl
 
 pub command_of_pair : (words : List (String Global)) (first second : String Global) → 2 ≤ length words → length words < 3 → first ≡ get_or words 0 first → second ≡ get_or words 1 second
     → command_of (word_bytes words) ≡ two_words (string_bytes first) (string_bytes second)
@@ -163,13 +176,3 @@ command_of_more [] more = absurd (omega (arith, more))
 command_of_more (a ∷ []) more = absurd (omega (arith, more))
 command_of_more (a ∷ b ∷ []) more = absurd (omega (arith, more))
 command_of_more (a ∷ b ∷ c ∷ words) more = command_of_many (string_bytes a) (string_bytes b) (string_bytes c) (map string_bytes words)
-
--- ---- the command of a request
-
-abbrev pub as_request : Option Parameter → Option Request
-as_request None = None
-as_request (Some parameter) = Some (At parameter)
-
-pub command_of_parameter : (parameter : Option Parameter) → option_map at (option_map fraction_of_parameter parameter) ≡ option_map command_of_request (as_request parameter)
-command_of_parameter None = refl
-command_of_parameter (Some parameter) = refl

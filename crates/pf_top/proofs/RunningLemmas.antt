@@ -1,5 +1,5 @@
 -- What stands after each way for a run to end.
-use Rattle.std.proofs.Common.{◌≡◌, ◌≢◌, ℕ, ◌+◌, ◌<◌, ◌≤◌, ◌^◌, Bool, true, false, List, [], ◌++◌, length, Option, Some, None, Result, Ok, Err, refl, ap, ◌∙◌, inl, inr, arith}
+use Rattle.std.proofs.Common.{◌≡◌, ◌≢◌, ℕ, ◌+◌, ◌<◌, ◌≤◌, ◌^◌, Bool, true, false, cond, List, [], ◌++◌, length, Option, Some, None, Result, Ok, Err, refl, ap, ◌∙◌, inl, inr, arith}
 use Rattle.std.proofs.lemmas.List.{append-nil, length-append}
 use Rattle.std.specs.Prelude.{OnOk, IfSome, ◌↔◌, ◌⊎◌, if◌then◌else◌}
 use Rattle.pf_io.specs.declared.device.Failed.{Failed}
@@ -9,13 +9,18 @@ use Rattle.pf_io.specs.Faults.{Rose, HasCause}
 use Rattle.pf_io.specs.Told.{Gave, GaveCount, Took, IsFrontOf, NoneLeft, after_told, told_length}
 use Rattle.pf_text.specs.declared.Refusal.{Refusal}
 use Rattle.pf_text.specs.declared.Refusal.TheVariants as refusals
-use Rattle.pf_text.specs.Asked.{Command, at, curve, check_curve, Asked, usage, refused, accepted, asked, command_of}
-use Rattle.pf_text.proofs.AskedLemmas.{asked_usage, asked_something, asked_long}
-use Rattle.pf_top.specs.Answering.{IsRefused, IsMade}
-use Rattle.pf_top.specs.Words.{command_of_request}
-use Rattle.pf_top.specs.declared.words.Request.{Request}
+use Rattle.std.proofs.lemmas.Bool.{lt-ltb}
+use Rattle.std.specs.Prelude.{nat_lt}
+use Rattle.pf_text.specs.declared.TextBad.{TextBad}
+use Rattle.pf_text.specs.Kinds.{Accepted, problem_of}
+use Rattle.pf_text.specs.Answers.{verdict_text}
+use Rattle.pf_text.specs.Right.{IsRightVerdict}
+use Rattle.pf_text.proofs.SameAnswers.{same_verdict}
+use Rattle.pf_top.specs.Task.{Name, task_of, ProblemOf, Command, answer, check, name_of}
+use Rattle.pf_top.specs.Asked.{Asked, usage, refused, accepted, unless, refusal_behind, refusal_of, asked_of_read, asked_of_bytes, asked, command_of, IsRight}
+use Rattle.pf_top.specs.Answering.{IsRefused}
 use Rattle.pf_top.specs.Messages.{TookLine, ErrAfter, status_line}
-use Rattle.pf_top.specs.Running.{IsAnswerTo, IsNoTo, TookWhole, TookFront, Says, WasRead, SourceAfter, IsDue, IsRun}
+use Rattle.pf_top.specs.Running.{IsAnswerTo, IsNoTo, TookWhole, TookFront, Says, WasRead, SourceAfter, IsAfterReading, IsEnd, IsDue, IsRun}
 use Rattle.pf_top.specs.declared.status.Status.{Status}
 use Rattle.pf_top.specs.declared.status.Status.TheVariants.{Done, No, Usage, Refused, ReadFault, WriteFault, NoMemory}
 
@@ -79,26 +84,89 @@ is_due S so sn O oo on ask ReadFault says fault read wrote memory = absurd (read
 is_due S so sn O oo on ask WriteFault says fault read wrote memory = absurd (wrote says.2)
 is_due S so sn O oo on ask NoMemory says fault read wrote memory = absurd (memory refl)
 
--- ---- what is left of the source
+-- ---- what words and bytes ask
 
-read_after : {T : Type 0} (S : Source T) (so sn : T) (command : Command) (status : Status) → WasRead S so sn status → SourceAfter S so sn (Some command) status
-read_after S so sn (at x) status was = was
-read_after S so sn curve status was = was
-read_after S so sn check_curve status was = was
+asked_usage : (words : List (List ℕ)) (bytes : List ℕ) → command_of words ≡ None → asked words bytes ≡ usage
+unfolding asked
+asked_usage words bytes none = rw none refl
 
-source_after : {T : Type 0} (S : Source T) (so sn : T) (request : Request) (words : List (List ℕ)) (status : Status) → command_of words ≡ Some (command_of_request request)
-    → WasRead S so sn status → SourceAfter S so sn (command_of words) status
-source_after S so sn request words status some was = rw some (read_after S so sn (command_of_request request) status was)
+asked_command : (words : List (List ℕ)) (bytes : List ℕ) (command : Command) → command_of words ≡ Some command → asked words bytes ≡ asked_of_bytes command bytes
+unfolding asked
+asked_command words bytes command some = rw some refl
 
-read_refused : {T : Type 0} (S : Source T) (so sn : T) (refusal : Refusal) → refusal ≢ refusals.TooLong → NoneLeft (S.left sn) → WasRead S so sn (Refused refusal)
-read_refused S so sn (refusals.Text bad) other ended = ended
-read_refused S so sn refusals.TooLong other ended = absurd (other refl)
-read_refused S so sn refusals.Outside other ended = ended
-read_refused S so sn refusals.TooFine other ended = ended
+-- too many bytes are refused before they are looked at
+asks_long : (command : Command) (bytes : List ℕ) → 2 ^ 29 < length bytes → asked_of_bytes command bytes ≡ refused refusals.TooLong
+asks_long command bytes long = rw (lt-ltb (2 ^ 29) (length bytes) long) refl
 
--- the words ask for something
-not_usage : (request : Request) (words : List (List ℕ)) (bytes : List ℕ) → command_of words ≡ Some (command_of_request request) → asked words bytes ≢ usage
-not_usage request words bytes some = asked_something words bytes (rw some refl)
+either : (b : Bool) (x y : Asked) → x ≢ usage → y ≢ usage → cond b x y ≢ usage
+either true x y p q = p
+either false x y p q = q
+
+unless_not_usage : (refusal : Option Refusal) (next : Asked) → next ≢ usage → unless refusal next ≢ usage
+unless_not_usage (Some refusal) next h = λ e. cc
+unless_not_usage None next h = h
+
+read_not_usage : (command : Command) (read : Result (Accepted (ProblemOf (name_of command))) TextBad) → asked_of_read command read ≢ usage
+read_not_usage command (Err bad) = λ e. cc
+read_not_usage command (Ok read) =
+    let last : accepted command read.problem read.rest ≢ usage = (λ e. cc) in
+    unless_not_usage (refusal_behind command read) (unless (refusal_of command read.problem) (accepted command read.problem read.rest))
+    (unless_not_usage (refusal_of command read.problem) (accepted command read.problem read.rest) last)
+
+-- a command asks for something
+asks_something : (command : Command) (bytes : List ℕ) → asked_of_bytes command bytes ≢ usage
+asks_something command bytes =
+    let read = asked_of_read command (problem_of (task_of (name_of command)).kind bytes) in
+    either (nat_lt (2 ^ 29) (length bytes)) (refused refusals.TooLong) read (λ e. cc) (read_not_usage command (problem_of (task_of (name_of command)).kind bytes))
+
+not_usage : (words : List (List ℕ)) (bytes : List ℕ) (command : Command) → command_of words ≡ Some command → asked words bytes ≢ usage
+not_usage words bytes command some = rw (asked_command words bytes command some) (asks_something command bytes)
+
+-- ---- the ends of a command
+
+after_reading : (refusal : Refusal) → refusal ≢ refusals.TooLong → IsAfterReading (Refused refusal)
+after_reading (refusals.Text bad) other = tt
+after_reading refusals.TooLong other = absurd (other refl)
+after_reading refusals.Outside other = tt
+after_reading refusals.TooFine other = tt
+
+pub end_refused : {U : Type 0} (O : Sink U) (o : U) (command : Command) (bytes : List ℕ) (refusal : Refusal) → IsRefused command bytes refusal → IsEnd O o o command bytes (Refused refusal)
+end_refused O o command bytes refusal r = record { says = (r.asks, refl); out_count = omega arith; read = after_reading refusal r.short }
+
+pub end_no_memory : {U : Type 0} (O : Sink U) (o : U) (command : Command) (bytes : List ℕ) → IsEnd O o o command bytes NoMemory
+end_no_memory O o command bytes = record { says = (asks_something command bytes, refl); out_count = omega arith; read = tt }
+
+pub end_answered : {U : Type 0} (O : Sink U) (oo on : U) (name : Name) (bytes : List ℕ) (problem : ProblemOf name) (rest text : List ℕ)
+    → asked_of_bytes (answer name) bytes ≡ accepted (answer name) problem rest → (task_of name).IsRight problem text
+    → O.faults oo ≤ O.faults on → TookWhole O oo on text → IsEnd O oo on (answer name) bytes Done
+end_answered O oo on name bytes problem rest text asks right later took = record {
+  says = (text, rw asks right, rw asks (λ no'. absurd no'), took);
+  out_count = later;
+  read = tt;
+}
+
+pub end_checked : {U : Type 0} (O : Sink U) (oo on : U) (name : Name) (bytes : List ℕ) (problem : ProblemOf name) (rest : List ℕ) (holds : Bool)
+    → asked_of_bytes (check name) bytes ≡ accepted (check name) problem rest → IsRightVerdict ((task_of name).Certifies problem rest) (verdict_text holds)
+    → O.faults oo ≤ O.faults on → TookWhole O oo on (verdict_text holds) → IsEnd O oo on (check name) bytes (if holds then Done else No)
+end_checked O oo on name bytes problem rest true asks right later took = record {
+  says = (verdict_text true, rw asks right, rw asks (λ no'. absurd (let same = same_verdict true false no' in cc)), took);
+  out_count = later;
+  read = tt;
+}
+end_checked O oo on name bytes problem rest false asks right later took = record {
+  says = (verdict_text false, rw asks right, rw asks refl, took);
+  out_count = later;
+  read = tt;
+}
+
+pub end_write_fault : {U : Type 0} (O : Sink U) (oo on : U) (command : Command) (bytes : List ℕ) (problem : ProblemOf (name_of command)) (rest text : List ℕ)
+    → asked_of_bytes command bytes ≡ accepted command problem rest → IsRight command problem rest text
+    → O.faults oo ≤ O.faults on → Rose (O.faults oo) (O.faults on) → TookFront O oo on text → IsEnd O oo on command bytes WriteFault
+end_write_fault O oo on command bytes problem rest text asks right later rose took = record {
+  says = (text, rw asks right, rose, took);
+  out_count = later;
+  read = tt;
+}
 
 -- ---- the ends of a run
 
@@ -116,114 +184,76 @@ run_usage S s O o words none =
       complete = λ read wrote memory. is_due S s s O o o (asked words bytes) Usage (asks, refl) (λ e. absurd cc) read wrote memory;
     }
 
-pub run_read_fault : {T U : Type 0} (S : Source T) (so sn : T) (O : Sink U) (o : U) (request : Request) (words : List (List ℕ)) → command_of words ≡ Some (command_of_request request)
+pub run_read_fault : {T U : Type 0} (S : Source T) (so sn : T) (O : Sink U) (o : U) (command : Command) (words : List (List ℕ)) → command_of words ≡ Some command
     → GaveCount (S.left so) (S.left sn) (λ n. n ≤ 2 ^ 29) → Rose (S.faults so) (S.faults sn) → S.faults so ≤ S.faults sn → IsRun S so sn O o o words ReadFault
-run_read_fault S so sn O o request words some gave rose later =
+run_read_fault S so sn O o command words some gave rose later =
     let bytes = input_of (S.left so) gave.0 in
     record {
       bytes = bytes;
       told = told_input (S.left so) gave.0;
-      says = (not_usage request words bytes some, refl);
-      source = source_after S so sn request words ReadFault some (rose, gave);
+      says = (not_usage words bytes command some, refl);
+      source = rw some (rose, gave);
       source_count = later;
       out_count = omega arith;
       complete = λ read wrote memory. absurd (read rose);
     }
 
-pub run_too_long : {T U : Type 0} (S : Source T) (so sn : T) (O : Sink U) (o : U) (request : Request) (words : List (List ℕ)) → command_of words ≡ Some (command_of_request request)
+pub run_too_long : {T U : Type 0} (S : Source T) (so sn : T) (O : Sink U) (o : U) (command : Command) (words : List (List ℕ)) → command_of words ≡ Some command
     → GaveCount (S.left so) (S.left sn) (λ n. n ≡ 2 ^ 29 + 1) → S.faults so ≤ S.faults sn → IsRun S so sn O o o words (Refused refusals.TooLong)
-run_too_long S so sn O o request words some gave later =
+run_too_long S so sn O o command words some gave later =
     let bytes = input_of (S.left so) gave.0 in
-    let asks : asked words bytes ≡ refused refusals.TooLong = asked_long words bytes (command_of_request request) some (long_input (S.left so) (S.left sn) gave.0 gave.1 gave.2) in
+    let asks : asked words bytes ≡ refused refusals.TooLong = asked_command words bytes command some ∙ asks_long command bytes (long_input (S.left so) (S.left sn) gave.0 gave.1 gave.2) in
     record {
       bytes = bytes;
       told = told_input (S.left so) gave.0;
       says = (asks, refl);
-      source = source_after S so sn request words (Refused refusals.TooLong) some gave;
+      source = rw some gave;
       source_count = later;
       out_count = omega arith;
       complete = λ read wrote memory. rw asks refl;
     }
 
-pub run_no_memory : {T U : Type 0} (S : Source T) (so sn : T) (O : Sink U) (o : U) (request : Request) (words : List (List ℕ)) → command_of words ≡ Some (command_of_request request)
+pub run_no_memory : {T U : Type 0} (S : Source T) (so sn : T) (O : Sink U) (o : U) (command : Command) (words : List (List ℕ)) → command_of words ≡ Some command
     → GaveCount (S.left so) (S.left sn) (λ n. n ≤ 2 ^ 29) → S.faults so ≤ S.faults sn → IsRun S so sn O o o words NoMemory
-run_no_memory S so sn O o request words some gave later =
+run_no_memory S so sn O o command words some gave later =
     let bytes = input_of (S.left so) gave.0 in
     record {
       bytes = bytes;
       told = told_input (S.left so) gave.0;
-      says = (not_usage request words bytes some, refl);
-      source = source_after S so sn request words NoMemory some gave;
+      says = (not_usage words bytes command some, refl);
+      source = rw some gave;
       source_count = later;
       out_count = omega arith;
       complete = λ read wrote memory. absurd (memory refl);
     }
 
-pub run_refused : {T U : Type 0} (S : Source T) (so sn : T) (O : Sink U) (o : U) (request : Request) (words : List (List ℕ)) (bytes : List ℕ) (refusal : Refusal)
-    → command_of words ≡ Some (command_of_request request) → Gave (S.left so) (S.left sn) bytes → NoneLeft (S.left sn) → S.faults so ≤ S.faults sn
-    → IsRefused (command_of_request request) bytes refusal → IsRun S so sn O o o words (Refused refusal)
-run_refused S so sn O o request words bytes refusal some gave ended later r =
-    let asks : asked words bytes ≡ refused refusal = r.asks words some in
-    record {
-      bytes = bytes;
-      told = told_whole (S.left so) (S.left sn) bytes gave ended;
-      says = (asks, refl);
-      source = source_after S so sn request words (Refused refusal) some (read_refused S so sn refusal r.short ended);
-      source_count = later;
-      out_count = omega arith;
-      complete = λ read wrote memory. rw asks refl;
-    }
+was_read : {T : Type 0} (S : Source T) (so sn : T) (bytes : List ℕ) (status : Status) → IsAfterReading status → Gave (S.left so) (S.left sn) bytes → NoneLeft (S.left sn) → length bytes ≤ 2 ^ 29
+    → WasRead S so sn status
+was_read S so sn bytes Done read gave ended short = ended
+was_read S so sn bytes No read gave ended short = ended
+was_read S so sn bytes Usage read gave ended short = absurd read
+was_read S so sn bytes (Refused (refusals.Text bad)) read gave ended short = ended
+was_read S so sn bytes (Refused refusals.TooLong) read gave ended short = absurd read
+was_read S so sn bytes (Refused refusals.Outside) read gave ended short = ended
+was_read S so sn bytes (Refused refusals.TooFine) read gave ended short = ended
+was_read S so sn bytes ReadFault read gave ended short = absurd read
+was_read S so sn bytes WriteFault read gave ended short = ended
+was_read S so sn bytes NoMemory read gave ended short = (bytes, gave, short)
 
--- the text that was made is that of a right answer
-right_text : (command : Command) (words : List (List ℕ)) (bytes text : List ℕ) (no' : Bool) → command_of words ≡ Some command → IsMade command bytes text no' → IsAnswerTo (asked words bytes) text
-right_text command words bytes text no' some m = rw (m.asks words some) m.right
-
-is_no_to : (command : Command) (words : List (List ℕ)) (bytes text : List ℕ) → command_of words ≡ Some command → IsMade command bytes text true → IsNoTo (asked words bytes) text
-is_no_to command words bytes text some m = rw (m.asks words some) (m.verdict.0 refl)
-
-never_no : (command : Command) (words : List (List ℕ)) (bytes text : List ℕ) → command_of words ≡ Some command → IsMade command bytes text false → ¬ IsNoTo (asked words bytes) text
-never_no command words bytes text some m = rw (m.asks words some) (λ says. absurd (let e = m.verdict.1 says in cc))
-
-pub run_answered : {T U : Type 0} (S : Source T) (so sn : T) (O : Sink U) (oo on : U) (request : Request) (words : List (List ℕ)) (bytes text : List ℕ) (no' : Bool)
-    → command_of words ≡ Some (command_of_request request) → Gave (S.left so) (S.left sn) bytes → NoneLeft (S.left sn) → S.faults so ≤ S.faults sn → O.faults oo ≤ O.faults on
-    → IsMade (command_of_request request) bytes text no' → TookWhole O oo on text → IsRun S so sn O oo on words (if no' then No else Done)
-run_answered S so sn O oo on request words bytes text true some gave ended later later' m took =
-    let command = command_of_request request in
-    let says : Says O oo on (asked words bytes) No = (text, right_text command words bytes text true some m, is_no_to command words bytes text some m, took) in
+-- a command that had all its bytes
+pub run_ended : {T U : Type 0} (S : Source T) (so sn : T) (O : Sink U) (oo on : U) (command : Command) (words : List (List ℕ)) (bytes : List ℕ) (status : Status)
+    → command_of words ≡ Some command → Gave (S.left so) (S.left sn) bytes → NoneLeft (S.left sn) → length bytes ≤ 2 ^ 29 → S.faults so ≤ S.faults sn
+    → IsEnd O oo on command bytes status → IsRun S so sn O oo on words status
+run_ended S so sn O oo on command words bytes status some gave ended short later e =
+    let says : Says O oo on (asked words bytes) status = rw (asked_command words bytes command some) e.says in
     record {
       bytes = bytes;
       told = told_whole (S.left so) (S.left sn) bytes gave ended;
       says = says;
-      source = source_after S so sn request words No some ended;
+      source = rw some (was_read S so sn bytes status e.read gave ended short);
       source_count = later;
-      out_count = later';
-      complete = λ read wrote memory. is_due S so sn O oo on (asked words bytes) No says (λ e. absurd cc) read wrote memory;
-    }
-run_answered S so sn O oo on request words bytes text false some gave ended later later' m took =
-    let command = command_of_request request in
-    let says : Says O oo on (asked words bytes) Done = (text, right_text command words bytes text false some m, never_no command words bytes text some m, took) in
-    record {
-      bytes = bytes;
-      told = told_whole (S.left so) (S.left sn) bytes gave ended;
-      says = says;
-      source = source_after S so sn request words Done some ended;
-      source_count = later;
-      out_count = later';
-      complete = λ read wrote memory. is_due S so sn O oo on (asked words bytes) Done says (λ e. absurd cc) read wrote memory;
-    }
-
-pub run_write_fault : {T U : Type 0} (S : Source T) (so sn : T) (O : Sink U) (oo on : U) (request : Request) (words : List (List ℕ)) (bytes text : List ℕ) (no' : Bool)
-    → command_of words ≡ Some (command_of_request request) → Gave (S.left so) (S.left sn) bytes → NoneLeft (S.left sn) → S.faults so ≤ S.faults sn → O.faults oo ≤ O.faults on
-    → IsMade (command_of_request request) bytes text no' → Rose (O.faults oo) (O.faults on) → TookFront O oo on text → IsRun S so sn O oo on words WriteFault
-run_write_fault S so sn O oo on request words bytes text no' some gave ended later later' m rose took =
-    record {
-      bytes = bytes;
-      told = told_whole (S.left so) (S.left sn) bytes gave ended;
-      says = (text, right_text (command_of_request request) words bytes text no' some m, rose, took);
-      source = source_after S so sn request words WriteFault some ended;
-      source_count = later;
-      out_count = later';
-      complete = λ read wrote memory. absurd (wrote rose);
+      out_count = e.out_count;
+      complete = λ read wrote memory. is_due S so sn O oo on (asked words bytes) status says (λ same. absurd (rw same at e.read)) read wrote memory;
     }
 
 -- the words decide alone whether they are a command
@@ -233,6 +263,4 @@ usage_by_words S so sn O oo on words status run = by (command_of words) refl run
   where
     by : (command : Option Command) → command_of words ≡ command → SourceAfter S so sn command status → (status ≡ Usage) ↔ (command ≡ None)
     by None e after = (λ same. refl, λ same. after.0)
-    by (Some (at x)) e after = (λ same. absurd (rw same at after), λ same. absurd cc)
-    by (Some curve) e after = (λ same. absurd (rw same at after), λ same. absurd cc)
-    by (Some check_curve) e after = (λ same. absurd (rw same at after), λ same. absurd cc)
+    by (Some command) e after = (λ same. absurd (rw same at after), λ same. absurd cc)

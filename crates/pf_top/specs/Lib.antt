@@ -1,3 +1,5 @@
+pub mod Task
+pub mod Asked
 pub mod Words
 pub mod Messages
 pub mod Answering

@@ -5,8 +5,8 @@ use Rattle.pf_io.specs.declared.device.Sink.{Ghosts as Sink}
 use Rattle.pf_io.specs.Faults.{Rose}
 use Rattle.pf_io.specs.Told.{GaveCount, Took, IsFrontOf, NoneLeft, after_told, told_length}
 use Rattle.pf_text.specs.declared.Refusal.TheVariants.{TooLong}
-use Rattle.pf_text.specs.Asked.{Command, at, curve, check_curve, Asked, usage, refused, accepted, asked, command_of}
-use Rattle.pf_text.specs.Right.{IsRight, SaysNo}
+use Rattle.pf_top.specs.Task.{Command}
+use Rattle.pf_top.specs.Asked.{Asked, usage, refused, accepted, asked_of_bytes, asked, command_of, IsRight, SaysNo}
 use Rattle.pf_top.specs.declared.status.Status.{Status}
 use Rattle.pf_top.specs.declared.status.Status.TheVariants.{Done, No, Usage, Refused, ReadFault, WriteFault, NoMemory}
 
@@ -53,15 +53,26 @@ WasRead S old new status = NoneLeft (S.left new)
 -- What is left of the source, by the command. Words that are no command leave it as it was.
 abbrev pub SourceAfter : {T : Type 0} → Source T → T → T → Option Command → Status → Type 0
 SourceAfter S old new None status = (status ≡ Usage) × (new ≡ old)
-SourceAfter S old new (Some (at x)) status = WasRead S old new status
-SourceAfter S old new (Some curve) status = WasRead S old new status
-SourceAfter S old new (Some check_curve) status = WasRead S old new status
+SourceAfter S old new (Some command) status = WasRead S old new status
 
 -- the status that is due for what was asked
 abbrev pub IsDue : Asked → Status → Type 0
 IsDue usage status = status ≡ Usage
 IsDue (refused refusal) status = status ≡ Refused refusal
 IsDue (accepted command problem rest) status = (status ≡ Done) ⊎ (status ≡ No)
+
+-- the status comes only where the source was read to its end
+abbrev pub IsAfterReading : Status → Type 0
+IsAfterReading Usage = ⊥
+IsAfterReading ReadFault = ⊥
+IsAfterReading (Refused TooLong) = ⊥
+IsAfterReading status = Unit {0}
+
+-- What stands after a command that had all its bytes: what its status says of them, and what the sink of answers took.
+pub record IsEnd {U : Type 0} (O : Sink U) (out_old out_new : U) (command : Command) (bytes : List ℕ) (status : Status) : Type 0 where
+  pub says : Says O out_old out_new (asked_of_bytes command bytes) status
+  pub out_count : O.faults out_old ≤ O.faults out_new
+  pub read : IsAfterReading status
 
 -- What stands after a run.
 pub record IsRun {T U : Type 0} (S : Source T) (source_old source_new : T) (O : Sink U) (out_old out_new : U) (words : List (List ℕ)) (status : Status) : Type 0 where

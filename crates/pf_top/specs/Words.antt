@@ -1,13 +1,13 @@
 -- The bytes of words, and the command of a request.
-use Rattle.std.specs.Prelude.{ℕ, List, map, pos, neg_ℤ, Option, ⊤}
+use Rattle.std.specs.Prelude.{ℕ, List, map, pos, neg_ℤ, Option}
 use Rattle.std.specs.String.{string_bytes}
 use Rattle.std.specs.declared.string.String.{String}
 use Rattle.std.specs.declared.alloc.Global.{Global}
-use Rattle.pf_model.specs.Fraction.{Fraction, IsBoundedFraction}
+use Rattle.pf_model.specs.Fraction.{Fraction}
 use Rattle.pf_text.specs.Numbers.{natural_of, whole_of}
 use Rattle.pf_text.specs.Par.{billion}
-use Rattle.pf_text.specs.Asked.{Command, at, curve, check_curve, natural_within, integer_within, fraction_of_numbers}
-use Rattle.pf_top.specs.declared.words.Parameter.{Parameter}
+use Rattle.pf_text.specs.Words.{natural_within, integer_within, fraction_of_numbers}
+use Rattle.pf_top.specs.Task.{at, curve, Command, answer, check}
 use Rattle.pf_top.specs.declared.words.Request.{Request}
 use Rattle.pf_top.specs.declared.words.Request.TheVariants.{At, Curve, CheckCurve}
 
@@ -15,25 +15,12 @@ use Rattle.pf_top.specs.declared.words.Request.TheVariants.{At, Curve, CheckCurv
 abbrev pub word_bytes : List (String Global) → List (List ℕ)
 word_bytes words = map string_bytes words
 
--- the fraction of two words before and behind a slash, with both numbers in their ranges
+-- the fraction of two words before and behind a slash, in lowest terms, with both numbers in their ranges
 abbrev pub fraction_of_parts : List ℕ → List ℕ → Option Fraction
 fraction_of_parts front back = fraction_of_numbers (integer_within (neg_ℤ (pos billion)) (pos billion) (whole_of front)) (natural_within 1 billion (natural_of back))
 
--- a parameter as the words spell it
-abbrev pub fraction_of_parameter : Parameter → Fraction
-fraction_of_parameter parameter = record { p = parameter.p; q = parameter.q }
-
--- its numbers are within the widths that the code keeps
-abbrev pub IsBoundedParameter : Parameter → Type 0
-IsBoundedParameter parameter = IsBoundedFraction (fraction_of_parameter parameter)
-
 -- the command that a request stands for
 abbrev pub command_of_request : Request → Command
-command_of_request (At parameter) = at (fraction_of_parameter parameter)
-command_of_request Curve = curve
-command_of_request CheckCurve = check_curve
-
-abbrev pub IsBoundedRequest : Request → Type 0
-IsBoundedRequest (At parameter) = IsBoundedParameter parameter
-IsBoundedRequest Curve = ⊤
-IsBoundedRequest CheckCurve = ⊤
+command_of_request (At task) = answer (at task.parameter)
+command_of_request Curve = answer curve
+command_of_request CheckCurve = check curve

@@ -6,10 +6,11 @@
 //! accepted text is answered. Clauses on content hold where source and sink tell their bytes, all others for every one.
 #![tactic(auto)]
 
-mod answering;
+mod commands;
 mod messages;
 mod running;
 mod status;
+mod task;
 mod words;
 
 pub use messages::tell;

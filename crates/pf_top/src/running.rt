@@ -1,79 +1,36 @@
 // From the words and the bytes of a source to the bytes of a sink and a status.
-ghost use Rattle.std.specs.Prelude.{◌≡◌, ℕ, List, ◌↔◌, ◌≤◌, Some, None, OnOk, false, if◌then◌else◌};
-ghost use Rattle.pf_io.specs.Faults.{HasCause};
-ghost use Rattle.pf_io.specs.Told.{IsFrontOf, after_told};
-ghost use Rattle.pf_text.specs.Answers.{verdict_text};
-ghost use Rattle.pf_text.specs.Asked.{command_of};
-ghost use Rattle.pf_io.specs.Printing.{Adds, is_spent};
-ghost use Rattle.pf_top.specs.Answering.{IsPrintable, text_of_answer, is_no};
-ghost use Rattle.pf_top.specs.Words.{word_bytes, command_of_request, IsBoundedRequest};
+ghost use Rattle.std.specs.Prelude.{◌≡◌, ℕ, List, ◌↔◌, ◌≤◌, ◌^◌, Some, None, length};
+ghost use Rattle.pf_top.specs.Asked.{command_of};
+ghost use Rattle.pf_top.specs.Words.{word_bytes, command_of_request};
 ghost use Rattle.pf_top.specs.Messages.{ErrAfter};
-ghost use Rattle.pf_top.specs.Running.{TookWhole, IsRun};
+ghost use Rattle.pf_top.specs.Running.{IsEnd, IsRun};
 
-use crate::answering::{Answer, Stop, answer_request};
+use crate::commands::curve::Curve;
 use crate::messages::tell;
 use crate::status::Status;
+use crate::task::{answer, check};
 use crate::words::{Request, read_words};
-use pf_io::{Failed, Printer, ReadEnd, Sink, Source, read_all};
-use pf_par::{write_at, write_curve};
+use pf_io::{ReadEnd, Sink, Source, read_all};
 use pf_text::Refusal;
 use std::alloc::Global;
 
 /// The most bytes of an input.
 const LIMIT: usize = 1 << 29;
 
-// The answer to `check`.
-fn verdict_bytes(holds: bool) -> &'static [u8]
-    ensures { result.now ≡ verdict_text holds }
+// The command of a request, from its bytes to its status.
+fn run_request<O: Sink>(alloc: Global, request: &Request, bytes: &[u8], out: &mut O) -> Status
+    requires { length bytes.now ≤ 2 ^ 29 }
+    ensures { IsEnd O.Sink out.old out.new (command_of_request request.now) bytes.now result }
 {
-    if holds {
-        b"o check\nyes\nend\n"
-    } else {
-        b"o check\nno\nend\n"
+    match request {
+        Request::At(task) => answer(task, alloc, bytes, out),
+        Request::Curve => answer(&Curve, alloc, bytes, out),
+        Request::CheckCurve => check(&Curve, alloc, bytes, out),
     }
-}
-
-// Prints the answer.
-fn print<O: Sink>(printer: &mut Printer<'_, O>, answer: &Answer) -> Result<(), Failed>
-    requires usable { is_spent printer.old ≡ false }
-    requires printable { IsPrintable answer.now }
-    ensures { Adds printer.old printer.new (text_of_answer answer.now) result }
-{
-    match answer {
-        Answer::AtPoint(net, point) => write_at(printer, net, point),
-        Answer::WholeCurve(net, curve) => write_curve(printer, net, curve),
-        Answer::Verdict(holds) => printer.word(verdict_bytes(*holds)),
-    }
-}
-
-// The status of an answer that went out.
-fn status_of(answer: &Answer) -> Status
-    ensures { result ≡ (if is_no answer.now then Status.No else Status.Done) }
-{
-    match answer {
-        Answer::AtPoint(_, _) => Status::Done,
-        Answer::WholeCurve(_, _) => Status::Done,
-        Answer::Verdict(true) => Status::Done,
-        Answer::Verdict(false) => Status::No,
-    }
-}
-
-// Hands the text of the answer to the sink.
-fn hand_out<O: Sink>(out: &mut O, answer: &Answer) -> Result<(), Failed>
-    requires { IsPrintable answer.now }
-    ensures whole { OnOk result (TookWhole O.Sink out.old out.new (text_of_answer answer.now)) }
-    ensures grows { IsFrontOf (O.taken out.old) (O.taken out.new) }
-    ensures front { IsFrontOf (O.taken out.new) (after_told (O.taken out.old) (text_of_answer answer.now)) }
-    ensures cause { HasCause (O.faults out.old) (O.faults out.new) result }
-{
-    let mut printer = Printer::new(out);
-    print(&mut printer, answer)?;
-    printer.finish()
 }
 
 // The run with a command, up to its status.
 fn work<S: Source, O: Sink>(alloc: Global, request: &Request, source: &mut S, out: &mut O) -> Status
-    requires { IsBoundedRequest request.now }
     ensures { (words : List (List ℕ)) → command_of words ≡ Some (command_of_request request.now)
         → IsRun S.Source source.old source.new O.Sink out.old out.new words result }
 {
@@ -83,14 +40,7 @@ fn work<S: Source, O: Sink>(alloc: Global, request: &Request, source: &mut S, ou
         Err(ReadEnd::TooLong) => return Status::Refused(Refusal::TooLong),
         Err(ReadEnd::NoMemory) => return Status::NoMemory,
     };
-    match answer_request(alloc, request, &bytes) {
-        Ok(answer) => match hand_out(out, &answer) {
-            Ok(()) => status_of(&answer),
-            Err(_) => Status::WriteFault,
-        },
-        Err(Stop::Refused(refusal)) => Status::Refused(refusal),
-        Err(Stop::NoMemory) => Status::NoMemory,
-    }
+    run_request(alloc, request, &bytes, out)
 }
 
 /// Runs the command of the words on all that the source has left. The answer goes to `out`, or a line to `err` says why
