@@ -1,18 +1,18 @@
 -- What bytes ask of a command, and what it makes of them.
-use Rattle.std.proofs.Common.{◌≡◌, ◌≢◌, ℕ, ◌+◌, ◌≤◌, ◌^◌, List, [], ◌∷◌, length, Option, Some, None, Result, Ok, Err, refl, ◌∙◌}
+use Rattle.std.proofs.Common.{◌≡◌, ◌≢◌, ℕ, ◌≤◌, ◌^◌, List, [], ◌∷◌, length, Some, None, Result, Ok, Err, refl, ◌∙◌}
 use Rattle.std.proofs.lemmas.Bool.{le-ltb}
 use Rattle.pf_text.specs.declared.TextBad.{TextBad}
 use Rattle.pf_text.specs.declared.TextBad.TheVariants.{Syntax}
 use Rattle.pf_text.specs.declared.Refusal.{Refusal}
 use Rattle.pf_text.specs.declared.Refusal.TheVariants.{Text, TooLong}
-use Rattle.pf_text.specs.Lines.{Line, lines_from}
+use Rattle.pf_text.specs.Lines.{Line}
 use Rattle.pf_text.specs.Kinds.{Accepted, problem_of_lines, problem_of}
 use Rattle.pf_lines.specs.Places.{Place, lines_left}
 use Rattle.pf_lines.specs.declared.errors.ReadBad.{ReadBad}
 use Rattle.pf_lines.specs.declared.errors.ReadBad.TheVariants as reads
 use Rattle.pf_par.specs.Reading.{Agrees}
 use Rattle.pf_top.specs.Task.{Name, task_of, ProblemOf, Command, answer, check, name_of}
-use Rattle.pf_top.specs.Asked.{refused, accepted, asked_of_read, asked_of_bytes}
+use Rattle.pf_top.specs.Asked.{accepted, asked_of_read, asked_of_bytes}
 use Rattle.pf_top.specs.Answering.{IsBadText, IsReadTo, IsRefused, IsProblemOf}
 
 -- bytes that are not too many

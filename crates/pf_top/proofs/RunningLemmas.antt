@@ -20,7 +20,7 @@ use Rattle.pf_top.specs.Task.{Name, task_of, ProblemOf, Command, answer, check, 
 use Rattle.pf_top.specs.Asked.{Asked, usage, refused, accepted, unless, refusal_behind, refusal_of, asked_of_read, asked_of_bytes, asked, command_of, IsRight}
 use Rattle.pf_top.specs.Answering.{IsRefused}
 use Rattle.pf_top.specs.Messages.{TookLine, ErrAfter, status_line}
-use Rattle.pf_top.specs.Running.{IsAnswerTo, IsNoTo, TookWhole, TookFront, Says, WasRead, SourceAfter, IsAfterReading, IsEnd, IsDue, IsRun}
+use Rattle.pf_top.specs.Running.{IsAnswerTo, TookWhole, TookFront, Says, WasRead, SourceAfter, IsAfterReading, IsEnd, IsDue, IsRun}
 use Rattle.pf_top.specs.declared.status.Status.{Status}
 use Rattle.pf_top.specs.declared.status.Status.TheVariants.{Done, No, Usage, Refused, ReadFault, WriteFault, NoMemory}
 

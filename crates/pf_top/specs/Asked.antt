@@ -11,7 +11,7 @@ use Rattle.pf_text.specs.Kinds.{Accepted, problem_of}
 use Rattle.pf_text.specs.Answers.{verdict_text}
 use Rattle.pf_text.specs.Words.{parameter_of}
 use Rattle.pf_text.specs.Right.{IsRightVerdict}
-use Rattle.pf_top.specs.Task.{Name, at, curve, task_of, ProblemOf, Command, answer, check, name_of}
+use Rattle.pf_top.specs.Task.{at, curve, task_of, ProblemOf, Command, answer, check, name_of}
 
 abbrev pub one_word : List ℕ → Option Command
 one_word first = if bytes_eq first (codes "curve") then Some (answer curve) else None

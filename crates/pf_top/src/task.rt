@@ -72,11 +72,7 @@ pub trait Task {
 }
 
 // The problem that the lines give. The reader is left behind the line `end`.
-fn read_problem<T: Task>(
-    task: &T,
-    alloc: Global,
-    lines: &mut Lines<'_>,
-) -> Result<T::Problem, Stop>
+fn read_problem<T: Task>(task: &T, alloc: Global, lines: &mut Lines<'_>) -> Result<T::Problem, Stop>
     ensures read { IfOk result (λ p. IsReadTo (T.name task.now) lines.old lines.new (T.problem_of task.now p)) }
     ensures refused { (refusal : Refusal) → result ≡ Err (Stop.Refused refusal) → IsBadText (T.name task.now) lines.old refusal }
 {
