@@ -4,9 +4,8 @@ use Rattle.std.specs.Prelude.{ℤ, pos, Vec}
 use Rattle.std.specs.List.{refill}
 use Rattle.std.specs.Vec.{with_items}
 use Rattle.std.specs.declared.alloc.Global.{Global}
-use Rattle.std.proofs.lemmas.List.{map-set, map-append, get_or-map, replicate-append-replicate}
+use Rattle.std.proofs.lemmas.List.{map-set, map-append, get_or-map, replicate-append-replicate, length-map}
 use Rattle.std.proofs.Math.Seq.{take-append_seam}
-use Rattle.std.proofs.lemmas.List.{length-map}
 use Rattle.pf_frame.specs.Lending.{row_at, with_row}
 
 abbrev pub rows_of : List (Vec ℤ Global) → List (List ℤ)

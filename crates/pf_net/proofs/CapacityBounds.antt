@@ -3,8 +3,7 @@ use Rattle.std.proofs.Common.{◌≤◌, ◌<◌, ◌^◌, length, get_or, map, 
 use Rattle.std.specs.Prelude.{pos, ◌*ℤ◌, nat_abs}
 use Rattle.std.proofs.lemmas.Int.{ints}
 use Rattle.pf_model.specs.declared.AffineArc.{AffineArc}
-use Rattle.pf_model.specs.Fraction.{Fraction}
-use Rattle.pf_model.specs.Fraction.{IsBoundedFraction}
+use Rattle.pf_model.specs.Fraction.{Fraction, IsBoundedFraction}
 use Rattle.pf_rat.proofs.Products.{product_abs}
 use Rattle.std.proofs.lemmas.List.{length-map, get_or-map}
 use Rattle.pf_model.specs.Network.{Network, IsInInterval, capacity_at, ends_of}

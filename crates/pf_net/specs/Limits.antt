@@ -1,11 +1,10 @@
 -- The limits within which a network's numbers stay.
-use Rattle.std.specs.Prelude.{◌≡◌, ◌≤◌, ◌^◌, ◌≤ℤ◌, ◌*ℤ◌, neg_ℤ, pos, length, All}
+use Rattle.std.specs.Prelude.{◌≡◌, ◌≤◌, ◌^◌, ◌≤ℤ◌, ◌*ℤ◌, neg_ℤ, pos, length, All, map}
 use Rattle.pf_model.specs.declared.AffineArc.{AffineArc}
 use Rattle.pf_model.specs.declared.Sense.TheVariants.{Rising}
 use Rattle.pf_model.specs.Fraction.{Fraction}
 use Rattle.pf_model.specs.Graph.{Graph}
 use Rattle.pf_model.specs.Network.{Network, IsMonotone, ends_of}
-use Rattle.std.specs.Prelude.{map}
 
 pub record IsSmallArc (arc : AffineArc) : Type 0 where
   pub a_low : neg_ℤ (pos (2 ^ 56)) ≤ℤ arc.a

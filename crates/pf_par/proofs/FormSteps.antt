@@ -12,7 +12,7 @@ use Rattle.pf_text.specs.Par.{Given, par, node_number, coefficient, denominator,
 use Rattle.pf_text.proofs.KindsLemmas.{HasPlace, with_number_none}
 use Rattle.pf_lines.specs.declared.numbers.Bad.{Bad}
 use Rattle.pf_lines.specs.declared.numbers.Bad.TheVariants.{OutOfRange}
-use Rattle.pf_par.specs.Numbers.{in_ranges, ranged_numbers, number_refusal}
+use Rattle.pf_lines.specs.Ranges.{in_ranges, ranged_numbers, number_refusal}
 
 -- what was given, and then by a line of this form with these numbers, if they are numbers of their ranges
 abbrev pub state_of_ranged : {G P : Type 0} → Kind G P → State G → ℕ → Form G → Result (List ℤ) Bad → Result (State G) TextBad

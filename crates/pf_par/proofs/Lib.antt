@@ -1,15 +1,11 @@
 pub mod WritingLemmas
-pub mod PrintedLemmas
-pub mod RangedNumbers
+pub mod LineNumbers
 pub mod FormSteps
 pub mod FormLemmas
 pub mod EndLemmas
 pub mod StateSteps
 pub mod HeaderAndEnd
-pub mod PassedLines
-pub mod TakingLemmas
 pub mod OutlineLemmas
-pub mod SideTaken
 pub mod CutBounds
 pub mod SegmentsTaken
 pub mod FlowLineLemmas

@@ -16,10 +16,10 @@ use Rattle.pf_lines.specs.declared.numbers.Bad.{Bad}
 use Rattle.pf_lines.specs.declared.numbers.Bad.TheVariants.{NotNumber, OutOfRange}
 use Rattle.pf_lines.specs.Values.{within_range}
 use Rattle.pf_par.specs.declared.reading_forms.LineForm.TheVariants.{Source, Sink, Arc}
-use Rattle.pf_par.specs.Numbers.{ranged_numbers, number_refusal}
+use Rattle.pf_lines.specs.Ranges.{ranged_numbers, number_refusal}
 use Rattle.pf_par.specs.Forms.{HasForm}
 use Rattle.pf_par.specs.Rules.{broken_by}
-use Rattle.pf_par.proofs.RangedNumbers.{joined, one_number}
+use Rattle.pf_lines.proofs.RangedNumbers.{joined, one_number}
 use Rattle.pf_par.proofs.FormSteps.{state_of_ranged, step_interval, step_source, step_sink, step_arc, counted_out}
 
 -- what follows where a rule is broken, or none

@@ -2,7 +2,7 @@
 use Rattle.std.specs.Prelude.{◌≡◌, ℕ, ◌^◌, ℤ, List, ◌∷◌, length, map, All, codes}
 use Rattle.std.specs.Fmt.{decimal, signed_decimal}
 use Rattle.pf_model.specs.Answer.{IsWithinSize}
-use Rattle.pf_text.specs.Answers.{line}
+use Rattle.pf_text.specs.Spelling.{line}
 
 -- so many numbers, each of a size below 2^104
 pub record IsFlowRow (width : ℕ) (flow : List ℤ) : Type 0 where

@@ -5,7 +5,8 @@ use Rattle.pf_model.specs.Fraction.{Fraction}
 use Rattle.pf_model.specs.Flow.{flow_value}
 use Rattle.pf_model.specs.Network.{Network, IsNetworkCut, ends_of}
 use Rattle.pf_model.specs.Answer.{IsWithinSize, IsFractionShape}
-use Rattle.pf_text.specs.Answers.{line, cut_fields}
+use Rattle.pf_text.specs.Spelling.{line}
+use Rattle.pf_text.specs.Answers.{cut_fields}
 use Rattle.pf_par.specs.declared.outline.Outline.{Outline}
 use Rattle.pf_par.specs.declared.outline.ValuedPoint.{ValuedPoint}
 use Rattle.pf_par.specs.declared.outline.Segment.{Segment}
@@ -41,10 +42,6 @@ pub record IsOutlineShape (net : Network) (o : Outline) : Type 0 where
 -- the value of each flow
 abbrev pub values_of : Network → List (List ℤ) → List ℤ
 values_of net flows = map (λ flow. flow_value (map ends_of net.arcs) flow net.source) flows
-
--- the two numbers of a fraction, each with a space in front
-abbrev pub fraction_text : Fraction → List ℕ
-fraction_text at = (32 ∷ signed_decimal at.p) ++ (32 ∷ signed_decimal at.q)
 
 -- the line of point i
 abbrev pub point_line : ℕ → ValuedPoint → List ℕ

@@ -3,12 +3,12 @@ ghost use Rattle.std.specs.Prelude.{◌≡◌, ◌++◌, ◌∷◌, [], ℕ, ℤ
 ghost use Rattle.pf_model.specs.Answer.{IsFlowShape};
 ghost use Rattle.pf_lines.specs.declared.errors.AnswerBad.{AnswerBad};
 ghost use Rattle.pf_text.specs.Answers.{flows_text};
-ghost use Rattle.pf_par.specs.Taking.{Stops, Takes, numbers_text};
+ghost use Rattle.pf_lines.specs.Taking.{Stops, Takes};
+ghost use Rattle.pf_text.specs.Spelling.{numbers_text};
 ghost use Rattle.pf_par.specs.FlowLines.{IsFlowRow, flow_line};
 
-use crate::taking::{take_index, take_number, take_word};
 use pf_frame::{FlowTable, Numbers};
-use pf_lines::{AnswerBad, Exact};
+use pf_lines::{AnswerBad, Exact, take_numbered_line};
 use pf_net::Net;
 use std::alloc::Global;
 
@@ -16,25 +16,6 @@ use std::alloc::Global;
 const LEAST: i128 = 1 - (1 << 104);
 
 const GREATEST: i128 = (1 << 104) - 1;
-
-// The numbers of a flow, each with a space in front.
-fn take_flow_numbers(
-    alloc: Global,
-    width: usize,
-    text: &mut Exact<'_>,
-) -> Result<Numbers, AnswerBad>
-    ensures taken { IfOk result (λ flow. text.old ≡ numbers_text flow ++ text.new) }
-    ensures shape { IfOk result (IsFlowRow width) }
-    ensures found { (flow : List ℤ) (rest : List ℕ) → IsFlowRow width flow → Stops rest
-        → text.old ≡ numbers_text flow ++ rest → Takes flow rest result text.new }
-{
-    let mut numbers = Vec::with_capacity(alloc, width)?;
-    'numbers: for _i in 0..width {
-        let number = take_number(text, LEAST, GREATEST)?;
-        numbers.push(number)?;
-    }
-    Ok(Numbers::from_vec(numbers))
-}
 
 // The line of flow `j`.
 fn take_flow_line(
@@ -48,11 +29,7 @@ fn take_flow_line(
     ensures found { (flow : List ℤ) (rest : List ℕ) → IsFlowRow width flow
         → text.old ≡ flow_line j flow ++ rest → Takes flow rest result text.new }
 {
-    take_word(text, b"f")?;
-    take_index(text, j)?;
-    let flow = take_flow_numbers(alloc, width, text)?;
-    take_word(text, b"\n")?;
-    Ok(flow)
+    take_numbered_line(alloc, b"f", j, width, LEAST, GREATEST, text)
 }
 
 // Adds a flow to the table.

@@ -19,7 +19,6 @@ mod reading_rules;
 mod reading_state;
 #[cfg(test)]
 mod reading_tests;
-mod taking;
 mod writing;
 #[cfg(test)]
 mod writing_tests;

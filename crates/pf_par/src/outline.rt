@@ -1,21 +1,20 @@
 // The lines of points and cuts of a curve's text.
 ghost use Rattle.std.specs.Prelude.{◌≡◌, ◌↔◌, ◌++◌, ◌+◌, ◌<◌, ◌≤◌, ◌^◌, ℕ, ℤ, Bool, List, [], ◌∷◌, length, codes, IsTrue, IfOk, IfErr, IfSome, IfNone};
 ghost use Rattle.std.specs.Fmt.{decimal, signed_decimal};
-ghost use Rattle.pf_model.specs.Fraction.{Fraction, IsBoundedFraction, IsLowest};
+ghost use Rattle.pf_model.specs.Fraction.{Fraction};
 ghost use Rattle.pf_model.specs.Network.{IsNetworkCut, cut_a, cut_b};
 ghost use Rattle.pf_model.specs.Answer.{IsFractionShape, IsWithinSize};
-ghost use Rattle.pf_text.specs.Answers.{line, side_text, cut_fields};
-ghost use Rattle.pf_par.specs.Writing.{rest_of_line};
-ghost use Rattle.pf_par.specs.Outline.{IsOutlineShape, IsSegmentShape, IsValuedShape, cut_line, fraction_text, outline_text, point_line, points_outline, segment_text, value_fields};
-ghost use Rattle.pf_par.specs.Taking.{IsExcused, Stops, Takes};
+ghost use Rattle.pf_text.specs.Spelling.{line, side_text, rest_of_line, fraction_text};
+ghost use Rattle.pf_text.specs.Answers.{cut_fields};
+ghost use Rattle.pf_par.specs.Outline.{IsOutlineShape, IsSegmentShape, IsValuedShape, cut_line, outline_text, point_line, points_outline, segment_text, value_fields};
+ghost use Rattle.pf_lines.specs.Taking.{IsExcused, Stops, Takes};
 ghost use Rattle.pf_par.specs.declared.outline.Outline.{Outline};
 ghost use Rattle.pf_par.specs.declared.outline.Segment.{Segment};
 ghost use Rattle.pf_par.specs.declared.outline.ValuedPoint.{ValuedPoint};
 
-use crate::taking::{take_index, take_number, take_word};
 use pf_curve::{Points, Sides};
 use pf_frame::{Numbers, Side};
-use pf_lines::{AnswerBad, Exact};
+use pf_lines::{AnswerBad, Exact, take_fraction, take_index, take_number, take_side, take_word};
 use pf_net::Net;
 use pf_rat::Rat;
 use std::alloc::Global;
@@ -40,37 +39,6 @@ pub struct ValuedPoint {
 pub struct Segment {
     side: Side,
     point: ValuedPoint,
-}
-
-// The fraction of these numbers, if they are in lowest terms.
-fn lowest_of(p: i128, q: i128) -> Option<Rat>
-    requires { IsBoundedFraction (record { p = p; q = q }) }
-    ensures some { IfSome result (λ at. at ≡ record { p = p; q = q }) }
-    ensures shape { IfSome result IsFractionShape }
-    ensures none { IfNone result (¬ IsLowest (record { p = p; q = q })) }
-{
-    let at = Rat::new(p, q);
-    if at.p() != p {
-        return None;
-    }
-    if at.q() != q {
-        return None;
-    }
-    Some(at)
-}
-
-// A parameter in lowest terms.
-fn take_fraction(text: &mut Exact<'_>) -> Result<Rat, AnswerBad>
-    ensures taken { IfOk result (λ at. text.old ≡ fraction_text at ++ text.new) }
-    ensures shape { IfOk result IsFractionShape }
-    ensures found { (at : Fraction) (rest : List ℕ) → IsFractionShape at → Stops rest → text.old ≡ fraction_text at ++ rest → Takes at rest result text.new }
-{
-    let p = take_number(text, -(1 << 73), 1 << 73)?;
-    let q = take_number(text, 1, 1 << 46)?;
-    match lowest_of(p, q) {
-        Some(at) => Ok(at),
-        None => Err(AnswerBad::NotText),
-    }
 }
 
 // The value of a flow.
@@ -107,32 +75,6 @@ fn take_point_line(text: &mut Exact<'_>, i: usize) -> Result<ValuedPoint, Answer
     Ok(point)
 }
 
-// One character of a side.
-fn take_node(text: &mut Exact<'_>) -> Result<bool, AnswerBad>
-    ensures taken { IfOk result (λ inside. text.old ≡ side_text (inside ∷ []) ++ text.new) }
-    ensures found { (inside : Bool) (rest : List ℕ) → text.old ≡ side_text (inside ∷ []) ++ rest → Takes inside rest result text.new }
-{
-    if text.word(b"1") {
-        return Ok(true);
-    }
-    take_word(text, b"0")?;
-    Ok(false)
-}
-
-// One character for each node.
-fn take_nodes(alloc: Global, nodes: usize, text: &mut Exact<'_>) -> Result<Side, AnswerBad>
-    ensures taken { IfOk result (λ side. text.old ≡ side_text side ++ text.new) }
-    ensures count { IfOk result (λ side. length side ≡ nodes) }
-    ensures found { (side : List Bool) (rest : List ℕ) → length side ≡ nodes → text.old ≡ side_text side ++ rest → Takes side rest result text.new }
-{
-    let mut items = Vec::with_capacity(alloc, nodes)?;
-    'nodes: for _ in 0..nodes {
-        let inside = take_node(text)?;
-        items.push(inside)?;
-    }
-    Ok(Side::from_vec(items))
-}
-
 // The source is in the side, and the sink is not.
 fn is_cut(net: &Net, side: &[bool]) -> bool
     requires { length side.now ≡ net.now.nodes }
@@ -144,7 +86,7 @@ fn is_cut(net: &Net, side: &[bool]) -> bool
 }
 
 // A cut, node by node.
-fn take_side(
+fn take_cut_side(
     alloc: Global,
     net: &Net,
     nodes: usize,
@@ -155,7 +97,7 @@ fn take_side(
     ensures shape { IfOk result (IsNetworkCut net.now) }
     ensures found { (side : List Bool) (rest : List ℕ) → IsNetworkCut net.now side → text.old ≡ side_text side ++ rest → Takes side rest result text.new }
 {
-    let side = take_nodes(alloc, nodes, text)?;
+    let side = take_side(alloc, nodes, text)?;
     if is_cut(net, side.get()) {
         return Ok(side);
     }
@@ -181,7 +123,7 @@ fn take_cut(alloc: Global, net: &Net, text: &mut Exact<'_>) -> Result<Side, Answ
     let a = take_number(text, i128::MIN, i128::MAX)?;
     let b = take_number(text, i128::MIN, i128::MAX)?;
     take_word(text, b" ")?;
-    let side = take_side(alloc, net, nodes as usize, text)?;
+    let side = take_cut_side(alloc, net, nodes as usize, text)?;
     take_word(text, b"\n")?;
     if has_line(net, side.get(), a, b) {
         return Ok(side);

@@ -3,11 +3,10 @@ ghost use Rattle.std.specs.Prelude.{◌≡◌, IfErr};
 ghost use Rattle.pf_text.specs.Kinds.{problem_of_lines};
 ghost use Rattle.pf_text.specs.Par.{par};
 ghost use Rattle.pf_lines.specs.Places.{lines_left};
-ghost use Rattle.pf_par.specs.Reading.{Agrees, IsBehindRefusal, HasPassed};
+ghost use Rattle.pf_lines.specs.Reading.{Agrees, IsBehindRefusal, HasPassed};
 
-use crate::reading_forms::is_end;
 use crate::reading_state::ParState;
-use pf_lines::{Lines, ReadBad, TextBad};
+use pf_lines::{Lines, ReadBad, TextBad, is_end};
 use pf_net::Net;
 use std::alloc::Global;
 

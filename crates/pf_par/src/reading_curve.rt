@@ -3,16 +3,15 @@ ghost use Rattle.std.specs.Prelude.{◌≡◌, ◌≢◌, ◌↔◌, ◌++◌, [
 ghost use Rattle.pf_model.specs.Answer.{Curve, IsCurveShape, IsFlowShape};
 ghost use Rattle.pf_text.specs.Answers.{curve_text};
 ghost use Rattle.pf_par.specs.Outline.{values_of};
-ghost use Rattle.pf_par.specs.Taking.{Takes};
+ghost use Rattle.pf_lines.specs.Taking.{Takes};
 ghost use Rattle.pf_par.specs.CurveParts.{IsPartsShape, parts_text, value_of};
 ghost use Rattle.pf_par.specs.declared.reading_curve.Parts.{Parts};
 
 use crate::flow_lines::take_flows;
 use crate::outline::{Outline, take_outline};
-use crate::taking::take_word;
 use pf_curve::Curve;
 use pf_frame::{FlowTable, value};
-use pf_lines::{AnswerBad, Exact};
+use pf_lines::{AnswerBad, Exact, take_word};
 use pf_net::Net;
 use std::alloc::Global;
 

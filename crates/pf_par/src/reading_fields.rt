@@ -4,35 +4,12 @@ ghost use Rattle.pf_text.specs.Kinds.{number};
 ghost use Rattle.pf_text.specs.Numbers.{whole_of};
 ghost use Rattle.pf_text.specs.Par.{billion, coefficient, denominator, node_index};
 ghost use Rattle.pf_lines.specs.Values.{within_range};
-ghost use Rattle.pf_par.specs.Numbers.{both_of, ranged_numbers, listed, number_refusal};
+ghost use Rattle.pf_lines.specs.Ranges.{ranged_numbers, listed};
 
-use pf_lines::{Bad, TextBad, TextLine, whole};
+use pf_lines::{Bad, TextLine, both, field, whole};
 
 /// The greatest size of a coefficient and of both numbers of an end of the interval.
 const BILLION: i64 = 1_000_000_000;
-
-/// The field at this index, from 0.
-pub fn field<'a>(line: &TextLine<'a>, i: usize) -> &'a [u8]
-    requires kept { i < 8 }
-    requires there { i < length line.now.fields }
-    ensures { result.now ≡ slice_index_or line.now.fields i [] }
-{
-    match line.field(i) {
-        Some(field) => field,
-        None => unreachable!(),
-    }
-}
-
-/// Both numbers. A field that is no number is told before one out of its range.
-pub fn both<A: Drop, B: Drop>(a: Result<A, Bad>, b: Result<B, Bad>) -> Result<(A, B), Bad>
-    ensures { result ≡ both_of a b }
-{
-    match (a, b) {
-        (Ok(a), Ok(b)) => Ok((a, b)),
-        (Err(Bad::NotNumber), _) | (_, Err(Bad::NotNumber)) => Err(Bad::NotNumber),
-        _ => Err(Bad::OutOfRange),
-    }
-}
 
 // A coefficient, or the numerator of an end of the interval, in the field at this index.
 fn coefficient(line: &TextLine<'_>, i: usize) -> Result<i64, Bad>
@@ -92,14 +69,4 @@ pub fn index_of(node: i64) -> u32
     ensures { result ≡ node_index node }
 {
     (node - 1) as u32
-}
-
-/// The refusal of a line with such a field.
-pub fn refused(line: u64, bad: Bad) -> TextBad
-    ensures { result ≡ number_refusal line bad }
-{
-    match bad {
-        Bad::NotNumber => TextBad::Syntax(line),
-        Bad::OutOfRange => TextBad::Range(line),
-    }
 }

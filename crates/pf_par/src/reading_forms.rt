@@ -1,12 +1,11 @@
 // Which form a line has, by its words and the number of its fields.
 ghost use Rattle.std.specs.Prelude.{◌≡◌, ◌∷◌, [], slice_index_or, length, None, codes};
 ghost use Rattle.std.specs.Bool.{MatchBool};
-ghost use Rattle.pf_text.specs.Kinds.{word, numbers_by, is_end, is_wrong_kind};
+ghost use Rattle.pf_text.specs.Kinds.{word, numbers_by};
 ghost use Rattle.pf_text.specs.Par.{par_header};
 ghost use Rattle.pf_par.specs.Forms.{IsForm};
 
-use crate::reading_fields::field;
-use pf_lines::TextLine;
+use pf_lines::{TextLine, field};
 
 /// The forms of the lines between the header and the line `end`.
 #[derive(Clone, Copy, Debug, PartialEq, Eq)]
@@ -59,20 +58,6 @@ pub fn form_of(line: &TextLine<'_>) -> Option<LineForm>
         5 => numbers_form(line),
         _ => None,
     }
-}
-
-/// Whether the line is `end`.
-pub fn is_end(line: &TextLine<'_>) -> bool
-    ensures { result ≡ is_end line.now.fields }
-{
-    line.count() == 1 && field(line, 0) == b"end".as_slice()
-}
-
-/// Whether the line is the header of another kind of text.
-pub fn is_wrong_kind(line: &TextLine<'_>) -> bool
-    ensures { result ≡ is_wrong_kind (codes "par") line.now.fields }
-{
-    line.count() >= 2 && field(line, 0) == b"p".as_slice() && field(line, 1) != b"par".as_slice()
 }
 
 /// Whether the line begins with `p par` and has two more fields.

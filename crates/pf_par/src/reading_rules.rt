@@ -8,7 +8,7 @@ ghost use Rattle.pf_text.specs.declared.RuleKind.TheVariants.{Repeated, Ends};
 ghost use Rattle.pf_text.specs.Kinds.{rule_at};
 ghost use Rattle.pf_text.specs.Laws.{IsTextArc};
 ghost use Rattle.pf_text.specs.Par.{Given, broken_if, is_given, fraction, arc_rules_by, network_by};
-ghost use Rattle.pf_par.specs.Reading.{Agrees};
+ghost use Rattle.pf_lines.specs.Reading.{Agrees};
 ghost use Rattle.pf_par.specs.Rules.{broken_by, IsEnd, IsGoodEnd};
 
 use pf_lines::{ReadBad, RuleKind, TextBad};

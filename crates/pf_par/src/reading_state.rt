@@ -4,13 +4,13 @@ ghost use Rattle.pf_text.specs.Kinds.{step, end_line, header};
 ghost use Rattle.pf_text.specs.Par.{par};
 ghost use Rattle.pf_par.specs.Forms.{HasForm};
 ghost use Rattle.pf_par.specs.ParState.{state_of};
-ghost use Rattle.pf_par.specs.Reading.{Agrees};
+ghost use Rattle.pf_lines.specs.Reading.{Agrees};
 ghost use Rattle.pf_par.specs.Rules.{IsGoodEndLine};
 
-use crate::reading_fields::{arc_numbers, both, field, index_of, interval_numbers, node, refused};
-use crate::reading_forms::{LineForm, form_of, is_header, is_wrong_kind};
+use crate::reading_fields::{arc_numbers, index_of, interval_numbers, node};
+use crate::reading_forms::{LineForm, form_of, is_header};
 use crate::reading_rules::{Interval, against_arc, against_interval, against_node, network};
-use pf_lines::{ReadBad, TextBad, TextLine, whole};
+use pf_lines::{ReadBad, TextBad, TextLine, both, field, is_wrong_kind, refused, whole};
 use pf_model::AffineArc;
 use pf_net::Net;
 use std::alloc::Global;
@@ -32,7 +32,7 @@ impl ParState {
         ensures { Agrees (header par line.now) state_of result }
     {
         let number = line.number();
-        if is_wrong_kind(line) {
+        if is_wrong_kind(line, b"par") {
             return Err(ReadBad::Text(TextBad::WrongKind(number)));
         }
         if !is_header(line) {

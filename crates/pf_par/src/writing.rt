@@ -1,85 +1,19 @@
-// Writing of answers for networks. A line is printed as its first field, and then the rest: fields with a space in front,
-// and the line feed.
+// Writing of answers for networks.
 ghost use Rattle.std.specs.Prelude.{◌≡◌, ℕ, ◌<◌, ◌++◌, [], ◌∷◌, length, map, drop, false, codes};
 ghost use Rattle.std.specs.Fmt.{decimal, signed_decimal};
 ghost use Rattle.pf_model.specs.Network.{IsNetworkCut};
 ghost use Rattle.pf_model.specs.Answer.{IsFlowShape, IsPointShape, IsCurveShape};
 ghost use Rattle.pf_io.specs.Printing.{Adds, is_spent};
-ghost use Rattle.pf_text.specs.Answers.{line, side_text, point_fields, cut_fields, point_text, segments_text, points_text, flows_text, curve_text};
-ghost use Rattle.pf_par.specs.Writing.{spaced, rest_of_line};
+ghost use Rattle.pf_text.specs.Spelling.{line, side_text, spaced, rest_of_line};
+ghost use Rattle.pf_text.specs.Answers.{point_fields, cut_fields, point_text, segments_text, points_text, flows_text, curve_text};
 
 use pf_curve::{Curve, Point};
 use pf_frame::value;
-use pf_io::{Failed, Printer, Sink};
+use pf_io::{
+    Failed, Printer, Sink, print_index, print_numbered_line, print_numbers, print_rest, print_rest_side, print_row,
+};
 use pf_net::Net;
 use pf_rat::Rat;
-
-// A space, and the number.
-fn print_next<K: Sink>(out: &mut Printer<'_, K>, number: &i128) -> Result<(), Failed>
-    requires { is_spent out.old ≡ false }
-    ensures { Adds out.old out.new (32 ∷ signed_decimal number.now) result }
-{
-    let value = *number;
-    out.word(b" ")?;
-    out.num(value)?;
-    Ok(())
-}
-
-// The numbers, each with a space in front.
-fn print_numbers<K: Sink>(out: &mut Printer<'_, K>, numbers: &[i128]) -> Result<(), Failed>
-    requires { is_spent out.old ≡ false }
-    ensures { Adds out.old out.new (spaced (map signed_decimal numbers.now)) result }
-{
-    'items: for number in numbers {
-        print_next(out, number)?;
-    }
-    Ok(())
-}
-
-// One character of a side.
-fn print_node<K: Sink>(out: &mut Printer<'_, K>, inside: bool) -> Result<(), Failed>
-    requires { is_spent out.old ≡ false }
-    ensures { Adds out.old out.new (side_text (inside ∷ [])) result }
-{
-    if inside {
-        out.word(b"1")?;
-        return Ok(());
-    }
-    out.word(b"0")?;
-    Ok(())
-}
-
-// One character for each node.
-fn print_side<K: Sink>(out: &mut Printer<'_, K>, side: &[bool]) -> Result<(), Failed>
-    requires { is_spent out.old ≡ false }
-    ensures { Adds out.old out.new (side_text side.now) result }
-{
-    'nodes: for inside in side {
-        print_node(out, *inside)?;
-    }
-    Ok(())
-}
-
-// The rest of a line of numbers.
-fn print_rest<K: Sink>(out: &mut Printer<'_, K>, numbers: &[i128]) -> Result<(), Failed>
-    requires { is_spent out.old ≡ false }
-    ensures { Adds out.old out.new (rest_of_line (map signed_decimal numbers.now)) result }
-{
-    print_numbers(out, numbers)?;
-    out.word(b"\n")?;
-    Ok(())
-}
-
-// The rest of a line that is a side.
-fn print_rest_side<K: Sink>(out: &mut Printer<'_, K>, side: &[bool]) -> Result<(), Failed>
-    requires { is_spent out.old ≡ false }
-    ensures { Adds out.old out.new (rest_of_line (side_text side.now ∷ [])) result }
-{
-    out.word(b" ")?;
-    print_side(out, side)?;
-    out.word(b"\n")?;
-    Ok(())
-}
 
 // The rest of a point's line: the parameter, and the value of the flow there in units of `1/q`.
 fn print_point<K: Sink>(
@@ -136,16 +70,6 @@ fn print_only_cut<K: Sink>(out: &mut Printer<'_, K>, net: &Net, side: &[bool]) -
     Ok(())
 }
 
-// The line of the flow.
-fn print_only_flow<K: Sink>(out: &mut Printer<'_, K>, flow: &[i128]) -> Result<(), Failed>
-    requires { is_spent out.old ≡ false }
-    ensures { Adds out.old out.new (line (codes "f" ∷ map signed_decimal flow.now)) result }
-{
-    out.word(b"f")?;
-    print_rest(out, flow)?;
-    Ok(())
-}
-
 // The answer to `at`, of its three parts.
 fn print_answer<K: Sink>(
     out: &mut Printer<'_, K>,
@@ -162,7 +86,7 @@ fn print_answer<K: Sink>(
     out.word(b"o at\n")?;
     print_only_point(out, net, at, flow)?;
     print_only_cut(out, net, side)?;
-    print_only_flow(out, flow)?;
+    print_row(out, b"f", flow)?;
     out.word(b"end\n")?;
     Ok(())
 }
@@ -181,23 +105,13 @@ pub fn write_at<K: Sink>(out: &mut Printer<'_, K>, net: &Net, point: &Point) -> 
     Ok(())
 }
 
-// A space, and the number of a point, a cut or a flow.
-fn print_count<K: Sink>(out: &mut Printer<'_, K>, number: usize) -> Result<(), Failed>
-    requires { is_spent out.old ≡ false }
-    ensures { Adds out.old out.new (32 ∷ decimal number) result }
-{
-    out.word(b" ")?;
-    out.num(number as i128)?;
-    Ok(())
-}
-
 // The line of the number of cuts.
 fn print_cut_count<K: Sink>(out: &mut Printer<'_, K>, cuts: usize) -> Result<(), Failed>
     requires { is_spent out.old ≡ false }
     ensures { Adds out.old out.new (line (codes "k" ∷ decimal cuts ∷ [])) result }
 {
     out.word(b"k")?;
-    print_count(out, cuts)?;
+    print_index(out, cuts)?;
     out.word(b"\n")?;
     Ok(())
 }
@@ -215,7 +129,7 @@ fn print_point_line<K: Sink>(
     ensures { Adds out.old out.new (line (codes "b" ∷ decimal j ∷ point_fields net.now at.now flow.now)) result }
 {
     out.word(b"b")?;
-    print_count(out, j)?;
+    print_index(out, j)?;
     print_point(out, net, at, flow)?;
     Ok(())
 }
@@ -232,19 +146,8 @@ fn print_cut_line<K: Sink>(
     ensures { Adds out.old out.new (line (codes "s" ∷ decimal i ∷ cut_fields net.now side.now)) result }
 {
     out.word(b"s")?;
-    print_count(out, i)?;
+    print_index(out, i)?;
     print_cut(out, net, side)?;
-    Ok(())
-}
-
-// The line of flow `j`.
-fn print_flow_line<K: Sink>(out: &mut Printer<'_, K>, j: usize, flow: &[i128]) -> Result<(), Failed>
-    requires { is_spent out.old ≡ false }
-    ensures { Adds out.old out.new (line (codes "f" ∷ decimal j ∷ map signed_decimal flow.now)) result }
-{
-    out.word(b"f")?;
-    print_count(out, j)?;
-    print_rest(out, flow)?;
     Ok(())
 }
 
@@ -301,7 +204,7 @@ fn print_flows<K: Sink>(out: &mut Printer<'_, K>, curve: &Curve) -> Result<(), F
 {
     let flows = curve.points().len();
     'flows: for j in 0..flows {
-        print_flow_line(out, j, curve.flow(j))?;
+        print_numbered_line(out, b"f", j, curve.flow(j))?;
     }
     Ok(())
 }

@@ -9,7 +9,8 @@ use Rattle.std.proofs.lemmas.List.Elements.{recursion_from_All}
 use Rattle.pf_model.specs.Fraction.{Fraction}
 use Rattle.pf_model.specs.Network.{Network, IsNetworkCut}
 use Rattle.pf_model.specs.Answer.{Point, Row, IsWithinSize, IsFractionShape, IsFlowShape, IsPointShape, IsRowShape}
-use Rattle.pf_text.specs.Answers.{line, point_fields, cut_fields, point_text, rows_text, sweep_text, verdict_text}
+use Rattle.pf_text.specs.Spelling.{line}
+use Rattle.pf_text.specs.Answers.{point_fields, cut_fields, point_text, rows_text, sweep_text, verdict_text}
 use Rattle.pf_text.proofs.NumbersLemmas.{one_number}
 use Rattle.pf_text.proofs.TextLines.{ArePlain, lines_text, lines_text-append, same_lines, decimal_plain, signed_plain, numbers_plain, side_plain, same_side, same_decimal}
 

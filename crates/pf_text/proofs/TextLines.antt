@@ -8,7 +8,7 @@ use Rattle.std.proofs.lemmas.Bool.Decides.{nat_tests}
 use Rattle.std.proofs.lemmas.List.Folds.{list_all-append}
 use Rattle.pf_text.specs.Lines.{is_blank, fields}
 use Rattle.pf_text.specs.Numbers.{natural_of}
-use Rattle.pf_text.specs.Answers.{line, side_text}
+use Rattle.pf_text.specs.Spelling.{line, side_text}
 use Rattle.pf_text.proofs.LinesLemmas.{IsField, AreFields, field_end, fields_of_line}
 use Rattle.pf_text.proofs.NumbersLemmas.{natural_of-decimal}
 

@@ -10,7 +10,7 @@ use Rattle.pf_text.specs.Kinds.{Accepted, problem_of_lines, problem_of}
 use Rattle.pf_lines.specs.Places.{Place, lines_left}
 use Rattle.pf_lines.specs.declared.errors.ReadBad.{ReadBad}
 use Rattle.pf_lines.specs.declared.errors.ReadBad.TheVariants as reads
-use Rattle.pf_par.specs.Reading.{Agrees}
+use Rattle.pf_lines.specs.Reading.{Agrees}
 use Rattle.pf_top.specs.Task.{Name, task_of, ProblemOf, Command, answer, check, name_of}
 use Rattle.pf_top.specs.Asked.{accepted, asked_of_read, asked_of_bytes}
 use Rattle.pf_top.specs.Answering.{IsBadText, IsReadTo, IsRefused, IsProblemOf}

@@ -1,7 +1,7 @@
 -- What stands after each way for a run to end.
 use Rattle.std.proofs.Common.{◌≡◌, ◌≢◌, ℕ, ◌+◌, ◌<◌, ◌≤◌, ◌^◌, Bool, true, false, cond, List, [], ◌++◌, length, Option, Some, None, Result, Ok, Err, refl, ap, ◌∙◌, inl, inr, arith}
 use Rattle.std.proofs.lemmas.List.{append-nil, length-append}
-use Rattle.std.specs.Prelude.{OnOk, IfSome, ◌↔◌, ◌⊎◌, if◌then◌else◌}
+use Rattle.std.specs.Prelude.{OnOk, IfSome, ◌↔◌, ◌⊎◌, if◌then◌else◌, nat_lt}
 use Rattle.pf_io.specs.declared.device.Failed.{Failed}
 use Rattle.pf_io.specs.declared.device.Sink.{Ghosts as Sink}
 use Rattle.pf_io.specs.declared.device.Source.{Ghosts as Source}
@@ -10,7 +10,6 @@ use Rattle.pf_io.specs.Told.{Gave, GaveCount, Took, IsFrontOf, NoneLeft, after_t
 use Rattle.pf_text.specs.declared.Refusal.{Refusal}
 use Rattle.pf_text.specs.declared.Refusal.TheVariants as refusals
 use Rattle.std.proofs.lemmas.Bool.{lt-ltb}
-use Rattle.std.specs.Prelude.{nat_lt}
 use Rattle.pf_text.specs.declared.TextBad.{TextBad}
 use Rattle.pf_text.specs.Kinds.{Accepted, problem_of}
 use Rattle.pf_text.specs.Answers.{verdict_text}

@@ -4,7 +4,7 @@ ghost use Rattle.pf_text.specs.declared.Refusal.{Refusal};
 ghost use Rattle.pf_text.specs.Kinds.{problem_of_lines};
 ghost use Rattle.pf_text.specs.Answers.{verdict_text};
 ghost use Rattle.pf_lines.specs.Places.{lines_left};
-ghost use Rattle.pf_par.specs.Reading.{Agrees};
+ghost use Rattle.pf_lines.specs.Reading.{Agrees};
 ghost use Rattle.pf_io.specs.Faults.{HasCause};
 ghost use Rattle.pf_io.specs.Told.{IsFrontOf, after_told};
 ghost use Rattle.pf_io.specs.Printing.{Adds, is_spent};

@@ -1,6 +1,7 @@
 use Rattle.std.proofs.Common.{◌∙◌, arith}
 use Rattle.std.proofs.lemmas.Result.{err_from_is_err_and}
-use Rattle.pf_par.proofs.FlowLineLemmas.{flows_begin, flow_taken, flow_refused, flows_end, takes_nothing}
+use Rattle.pf_par.proofs.FlowLineLemmas.{flows_begin, flow_taken, flow_refused, flows_end}
+use Rattle.pf_lines.proofs.RowsTaken.{takes_nothing}
 use Rattle.pf_par.proofs.flow_lines.take_flow_lines.Goals as goal
 
 pub flows-init : goal.flows-init

@@ -2,7 +2,7 @@ use Rattle.std.proofs.Common.{◌≡◌, ◌++◌, ◌∷◌, ap, sym, ◌∙◌
 use Rattle.std.proofs.lemmas.Int.{ints}
 use Rattle.std.proofs.lemmas.Result.{err_from_is_err_and}
 use Rattle.pf_model.specs.Network.{cut_a, cut_b}
-use Rattle.pf_text.specs.Answers.{side_text}
+use Rattle.pf_text.specs.Spelling.{side_text}
 use Rattle.pf_par.proofs.CutBounds.{constant_size, slope_size}
 use Rattle.pf_par.proofs.OutlineLemmas.{behind_constant, behind_slope, cut_parts, both, not_both, cut_taken}
 use Rattle.pf_par.proofs.outline.take_cut.Goals as goal
@@ -88,5 +88,5 @@ returns-then-has_line-clause-taken c =
     let low = c.in_ok-a.ensures.range in
     let got : c.get.result.now ≡ c.in_ok-side.side = c.get.ensures in
     let same = both c.has_line.result c.in_ok-a.a c.in_ok-b.b _ _ (omega (arith, ints, low.0)) (omega (arith, ints, low.1)) (omega (arith, ints, c.in_ok-b.ensures.range.0)) (omega (arith, ints, c.in_ok-b.ensures.range.1)) c.has_line.ensures c.if-has_line.true in
-    cut_taken net c.in_ok-side.side c.in_ok-a.a c.in_ok-b.b c.args.text.now c.take_number.new.text c.take_number-2.new.text c.take_word.new.text c.take_side.new.text c.take_word-2.new.text
+    cut_taken net c.in_ok-side.side c.in_ok-a.a c.in_ok-b.b c.args.text.now c.take_number.new.text c.take_number-2.new.text c.take_word.new.text c.take_cut_side.new.text c.take_word-2.new.text
     (same.0 ∙ ap (cut_a net) got) (same.1 ∙ ap (cut_b net) got) c.in_ok-a.ensures.taken c.in_ok-b.ensures.taken c.in_ok-take_word.ensures.taken c.in_ok-side.ensures.taken c.in_ok-take_word-2.ensures.taken

@@ -2,7 +2,7 @@ use Rattle.std.proofs.Common.{◌++◌, ◌∷◌, [], length, sym, ◌∙◌, a
 use Rattle.std.specs.Prelude.{codes}
 use Rattle.std.specs.Fmt.{decimal}
 use Rattle.std.proofs.lemmas.Result.{err_from_is_err_and}
-use Rattle.pf_text.specs.Answers.{line}
+use Rattle.pf_text.specs.Spelling.{line}
 use Rattle.pf_par.specs.Outline.{points_outline}
 use Rattle.pf_par.proofs.SegmentsTaken.{points_bytes}
 use Rattle.pf_par.proofs.outline.take_outline.Goals as goal

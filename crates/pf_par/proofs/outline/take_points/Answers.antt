@@ -1,7 +1,7 @@
 use Rattle.std.proofs.Common.{◌≡◌, ◌+◌, ◌<◌, ◌++◌, arith}
 use Rattle.std.proofs.lemmas.Result.{err_from_is_err_and}
 use Rattle.pf_par.specs.Outline.{segments_outline}
-use Rattle.pf_par.specs.Taking.{IsExcused}
+use Rattle.pf_lines.specs.Taking.{IsExcused}
 use Rattle.pf_par.proofs.SegmentsTaken.{first_given, begins, comes, goes_on, ends}
 use Rattle.pf_par.proofs.outline.take_points.Goals as goal
 

@@ -3,7 +3,7 @@ use Rattle.pf_text.specs.Kinds.{body, problem_of_lines}
 use Rattle.pf_text.specs.Par.{par}
 use Rattle.pf_lines.specs.Places.{lines_left}
 use Rattle.pf_par.specs.ParState.{state_of}
-use Rattle.pf_par.specs.Reading.{HasPassed}
+use Rattle.pf_lines.specs.Reading.{HasPassed}
 use Rattle.pf_par.proofs.reading.read_par.Given as goal
 
 abbrev pub invariant-lines : goal.invariant-lines

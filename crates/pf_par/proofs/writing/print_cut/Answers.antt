@@ -5,9 +5,8 @@ use Rattle.std.specs.Fmt.{signed_decimal}
 use Rattle.pf_model.specs.Network.{cut_a, cut_b}
 use Rattle.pf_rat.proofs.Products.{comes_back}
 use Rattle.pf_io.proofs.PrintingLemmas.{adds_then, adds_stopped}
-use Rattle.pf_text.specs.Answers.{side_text}
-use Rattle.pf_par.specs.Writing.{rest_of_line}
-use Rattle.pf_par.proofs.WritingLemmas.{rest-append}
+use Rattle.pf_text.specs.Spelling.{side_text, rest_of_line}
+use Rattle.pf_text.proofs.SpellingLemmas.{rest-append}
 use Rattle.pf_par.proofs.writing.print_cut.Goals as goal
 
 pub returns-in_err-print_numbers : goal.returns-in_err-print_numbers

@@ -1,7 +1,7 @@
 use Rattle.std.proofs.Common.{◌∷◌, []}
 use Rattle.std.specs.Fmt.{decimal}
-use Rattle.pf_par.specs.Writing.{rest_of_line}
-use Rattle.pf_par.proofs.WritingLemmas.{line_is}
+use Rattle.pf_text.specs.Spelling.{rest_of_line}
+use Rattle.pf_text.proofs.SpellingLemmas.{line_is}
 use Rattle.std.proofs.lemmas.Result.{err_from_is_err_and}
 use Rattle.pf_io.proofs.PrintingLemmas.{adds_then, adds_stopped}
 use Rattle.pf_par.proofs.writing.print_cut_count.Goals as goal
@@ -11,15 +11,15 @@ returns-in_err-word g c =
     let p = err_from_is_err_and c.from_residual.result c.from_residual.ensures.1 in
     rw (p.1, ← line_is (107 ∷ []) (decimal c.args.cuts ∷ [])) (adds_stopped {T = Unit {0}} (rest_of_line (decimal c.args.cuts ∷ [])) c.in_err-word.ensures)
 
-pub returns-in_err-print_count : goal.returns-in_err-print_count
-returns-in_err-print_count g c =
-    let p = err_from_is_err_and c.from_residual-in_err-print_count.result c.from_residual-in_err-print_count.ensures.1 in
-    rw (p.1, ← line_is (107 ∷ []) (decimal c.args.cuts ∷ [])) (adds_then c.in_ok-word.ensures (adds_stopped {T = Unit {0}} (10 ∷ []) c.in_err-print_count.ensures))
+pub returns-in_err-print_index : goal.returns-in_err-print_index
+returns-in_err-print_index g c =
+    let p = err_from_is_err_and c.from_residual-in_err-print_index.result c.from_residual-in_err-print_index.ensures.1 in
+    rw (p.1, ← line_is (107 ∷ []) (decimal c.args.cuts ∷ [])) (adds_then c.in_ok-word.ensures (adds_stopped {T = Unit {0}} (10 ∷ []) c.in_err-print_index.ensures))
 
 pub returns-in_err-word-2 : goal.returns-in_err-word-2
 returns-in_err-word-2 g c =
     let p = err_from_is_err_and c.from_residual-in_err-word-2.result c.from_residual-in_err-word-2.ensures.1 in
-    rw (p.1, ← line_is (107 ∷ []) (decimal c.args.cuts ∷ [])) (adds_then c.in_ok-word.ensures (adds_then c.in_ok-print_count.ensures c.in_err-word-2.ensures))
+    rw (p.1, ← line_is (107 ∷ []) (decimal c.args.cuts ∷ [])) (adds_then c.in_ok-word.ensures (adds_then c.in_ok-print_index.ensures c.in_err-word-2.ensures))
 
 pub returns : goal.returns
-returns g c = rw (← line_is (107 ∷ []) (decimal c.args.cuts ∷ [])) (adds_then c.in_ok-word.ensures (adds_then c.in_ok-print_count.ensures c.in_ok-word-2.ensures))
+returns g c = rw (← line_is (107 ∷ []) (decimal c.args.cuts ∷ [])) (adds_then c.in_ok-word.ensures (adds_then c.in_ok-print_index.ensures c.in_ok-word-2.ensures))

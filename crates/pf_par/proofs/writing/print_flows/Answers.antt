@@ -3,7 +3,7 @@ use Rattle.std.proofs.lemmas.List.{at_drop_all}
 use Rattle.std.proofs.lemmas.Result.{err_from_is_err_and}
 use Rattle.pf_text.specs.Answers.{flows_text}
 use Rattle.pf_text.proofs.AnswersLemmas.{flows_text_at}
-use Rattle.pf_par.proofs.PrintedLemmas.{printed_begin, printed_more, printed_stopped, printed_end}
+use Rattle.pf_io.proofs.PrintedLemmas.{printed_begin, printed_more, printed_stopped, printed_end}
 use Rattle.pf_par.proofs.writing.print_flows.Goals as goal
 
 pub flows-init : goal.flows-init
@@ -12,13 +12,13 @@ flows-init g c = printed_begin c.args.out.now _ c.requires
 pub flows-preserved : goal.flows-preserved
 flows-preserved g c =
     let low : c.flows.j < length c.args.curve.now.flows = omega (arith, c.points-flows.ensures.flow_count, ap length c.points-flows.ensures.points) in
-    printed_more c.flows.invariant (flows_text_at c.flows.j c.args.curve.now.flows low) (rw c.flow.ensures at c.in_ok-print_flow_line.ensures)
+    printed_more c.flows.invariant (flows_text_at c.flows.j c.args.curve.now.flows low) (rw c.flow.ensures at c.in_ok-print_numbered_line.ensures)
 
-pub returns-in_err-print_flow_line : goal.returns-in_err-print_flow_line
-returns-in_err-print_flow_line g c =
+pub returns-in_err-print_numbered_line : goal.returns-in_err-print_numbered_line
+returns-in_err-print_numbered_line g c =
     let p = err_from_is_err_and c.from_residual.result c.from_residual.ensures.1 in
     let low : c.flows.j < length c.args.curve.now.flows = omega (arith, c.points-flows.ensures.flow_count, ap length c.points-flows.ensures.points) in
-    rw p.1 (printed_stopped _ c.flows.invariant (flows_text_at c.flows.j c.args.curve.now.flows low) (rw c.flow.ensures at c.in_err-print_flow_line.ensures))
+    rw p.1 (printed_stopped _ c.flows.invariant (flows_text_at c.flows.j c.args.curve.now.flows low) (rw c.flow.ensures at c.in_err-print_numbered_line.ensures))
 
 pub returns : goal.returns
 returns g c =

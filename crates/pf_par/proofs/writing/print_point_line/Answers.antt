@@ -1,8 +1,8 @@
 use Rattle.std.proofs.Common.{◌∷◌, []}
 use Rattle.std.specs.Fmt.{decimal}
 use Rattle.pf_text.specs.Answers.{point_fields}
-use Rattle.pf_par.specs.Writing.{rest_of_line}
-use Rattle.pf_par.proofs.WritingLemmas.{line_is}
+use Rattle.pf_text.specs.Spelling.{rest_of_line}
+use Rattle.pf_text.proofs.SpellingLemmas.{line_is}
 use Rattle.std.proofs.lemmas.Result.{err_from_is_err_and}
 use Rattle.pf_io.proofs.PrintingLemmas.{adds_then, adds_stopped}
 use Rattle.pf_par.proofs.writing.print_point_line.Goals as goal
@@ -12,15 +12,15 @@ returns-in_err-word g c =
     let p = err_from_is_err_and c.from_residual.result c.from_residual.ensures.1 in
     rw (p.1, ← line_is (98 ∷ []) (decimal c.args.j ∷ point_fields c.args.net.now c.args.at.now c.args.flow.now)) (adds_stopped {T = Unit {0}} (rest_of_line (decimal c.args.j ∷ point_fields c.args.net.now c.args.at.now c.args.flow.now)) c.in_err-word.ensures)
 
-pub returns-in_err-print_count : goal.returns-in_err-print_count
-returns-in_err-print_count g c =
-    let p = err_from_is_err_and c.from_residual-in_err-print_count.result c.from_residual-in_err-print_count.ensures.1 in
-    rw (p.1, ← line_is (98 ∷ []) (decimal c.args.j ∷ point_fields c.args.net.now c.args.at.now c.args.flow.now)) (adds_then c.in_ok-word.ensures (adds_stopped {T = Unit {0}} (rest_of_line (point_fields c.args.net.now c.args.at.now c.args.flow.now)) c.in_err-print_count.ensures))
+pub returns-in_err-print_index : goal.returns-in_err-print_index
+returns-in_err-print_index g c =
+    let p = err_from_is_err_and c.from_residual-in_err-print_index.result c.from_residual-in_err-print_index.ensures.1 in
+    rw (p.1, ← line_is (98 ∷ []) (decimal c.args.j ∷ point_fields c.args.net.now c.args.at.now c.args.flow.now)) (adds_then c.in_ok-word.ensures (adds_stopped {T = Unit {0}} (rest_of_line (point_fields c.args.net.now c.args.at.now c.args.flow.now)) c.in_err-print_index.ensures))
 
 pub returns-in_err-print_point : goal.returns-in_err-print_point
 returns-in_err-print_point g c =
     let p = err_from_is_err_and c.from_residual-in_err-print_point.result c.from_residual-in_err-print_point.ensures.1 in
-    rw (p.1, ← line_is (98 ∷ []) (decimal c.args.j ∷ point_fields c.args.net.now c.args.at.now c.args.flow.now)) (adds_then c.in_ok-word.ensures (adds_then c.in_ok-print_count.ensures c.in_err-print_point.ensures))
+    rw (p.1, ← line_is (98 ∷ []) (decimal c.args.j ∷ point_fields c.args.net.now c.args.at.now c.args.flow.now)) (adds_then c.in_ok-word.ensures (adds_then c.in_ok-print_index.ensures c.in_err-print_point.ensures))
 
 pub returns : goal.returns
-returns g c = rw (← line_is (98 ∷ []) (decimal c.args.j ∷ point_fields c.args.net.now c.args.at.now c.args.flow.now)) (adds_then c.in_ok-word.ensures (adds_then c.in_ok-print_count.ensures c.in_ok-print_point.ensures))
+returns g c = rw (← line_is (98 ∷ []) (decimal c.args.j ∷ point_fields c.args.net.now c.args.at.now c.args.flow.now)) (adds_then c.in_ok-word.ensures (adds_then c.in_ok-print_index.ensures c.in_ok-print_point.ensures))

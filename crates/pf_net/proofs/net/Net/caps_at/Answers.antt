@@ -1,8 +1,7 @@
 use Rattle.std.proofs.Common.{◌≡◌, ap, subst, ◌∙◌, map, List}
 use Rattle.std.specs.Prelude.{ℤ}
-use Rattle.pf_model.specs.Fraction.{Fraction}
+use Rattle.pf_model.specs.Fraction.{Fraction, IsBoundedFraction}
 use Rattle.pf_model.specs.Network.{Network, IsInInterval, capacity_at}
-use Rattle.pf_model.specs.Fraction.{IsBoundedFraction}
 use Rattle.pf_frame.specs.Numbers.{IsBounded}
 use Rattle.pf_net.specs.Limits.{IsBuilt, graph_of}
 use Rattle.pf_net.proofs.CapacityBounds.{bounded_capacities}

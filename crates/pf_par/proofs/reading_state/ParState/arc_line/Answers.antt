@@ -3,7 +3,8 @@ use Rattle.std.proofs.lemmas.Int.{ints}
 use Rattle.pf_model.specs.declared.AffineArc.{AffineArc}
 use Rattle.pf_text.specs.Par.{node_index}
 use Rattle.pf_par.specs.ParState.{state_of}
-use Rattle.pf_par.proofs.RangedNumbers.{back, numbers_of_arc}
+use Rattle.pf_lines.proofs.RangedNumbers.{back}
+use Rattle.pf_par.proofs.LineNumbers.{numbers_of_arc}
 use Rattle.pf_par.proofs.StateSteps.{four_behind, with_arcs, arc_refused, arc_too_many, arc_given}
 use Rattle.pf_par.proofs.reading_state.ParState.arc_line.Goals as goal
 

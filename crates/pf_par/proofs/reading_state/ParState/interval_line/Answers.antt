@@ -1,6 +1,6 @@
 use Rattle.std.proofs.Common.{Some, None, Err, sym, ap, ◌∙◌}
 use Rattle.pf_par.specs.ParState.{state_of}
-use Rattle.pf_par.proofs.RangedNumbers.{ends_of_interval, end_numbers_back}
+use Rattle.pf_par.proofs.LineNumbers.{ends_of_interval, end_numbers_back}
 use Rattle.pf_par.proofs.StateSteps.{four_behind, interval_refused, interval_given}
 use Rattle.pf_par.proofs.reading_state.ParState.interval_line.Goals as goal
 

@@ -5,7 +5,7 @@ use Rattle.pf_text.specs.Par.{node_index}
 use Rattle.pf_text.specs.Numbers.{whole_of}
 use Rattle.pf_lines.proofs.ValueLemmas.{in_range}
 use Rattle.pf_par.specs.ParState.{state_of}
-use Rattle.pf_par.proofs.RangedNumbers.{back}
+use Rattle.pf_lines.proofs.RangedNumbers.{back}
 use Rattle.pf_par.proofs.StateSteps.{source_refused, source_given}
 use Rattle.pf_par.proofs.reading_state.ParState.source_line.Goals as goal
 

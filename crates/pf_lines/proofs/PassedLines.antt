@@ -1,0 +1,123 @@
+-- Lines that were taken, one after another, and the line that decided.
+use Rattle.std.proofs.Common.{◌≡◌, ℕ, Bool, true, false, not, ◌&&◌, List, [], ◌∷◌, ◌++◌, Option, Some, None, Result, Ok, Err, refl, sym, ap, ◌∙◌, append_assoc, subst, ◌+◌}
+use Rattle.std.specs.Prelude.{ℤ, IfErr, ◌==◌}
+use Rattle.pf_text.specs.declared.RuleKind.{RuleKind}
+use Rattle.pf_text.specs.declared.TextBad.{TextBad}
+use Rattle.pf_text.specs.declared.TextBad.TheVariants.{Syntax, Range, Count, WrongKind, Rule, NoEnd}
+use Rattle.pf_text.specs.Lines.{Line}
+use Rattle.pf_text.specs.Kinds.{Kind, State, Match, Accepted, are_in_range, match_of, is_wrong_kind, and_then, refuse_if, rule_at, state_of_header, state_of_match, header, step, end_line, is_end, body, problem_of_lines}
+use Rattle.pf_text.proofs.LinesLemmas.{given_line}
+use Rattle.pf_lines.specs.declared.errors.ReadBad.{ReadBad}
+use Rattle.pf_lines.specs.declared.errors.ReadBad.TheVariants.{Text, NoMemory}
+use Rattle.pf_lines.specs.Places.{Place, lines_left, behind}
+use Rattle.pf_lines.specs.Reading.{Agrees, refused_line, IsBehindRefusal, behind_all, HasPassed}
+
+-- ---- places
+
+pub passed_none : (place : Place) → HasPassed place place
+passed_none place = record { passed = []; lines = refl; place = refl; front = []; rest = refl }
+
+behind_all-push : (place : Place) (lines : List Line) (line : Line) → behind_all place (lines ++ line ∷ []) ≡ behind line
+behind_all-push place [] line = refl
+behind_all-push place (first ∷ later) line = behind_all-push (behind first) later line
+
+pub passed_more : (before middle after : Place) (line : Line) → HasPassed before middle → lines_left middle ≡ line ∷ lines_left after → after ≡ behind line → HasPassed before after
+passed_more before middle after line has e is =
+    let suffix = (given_line (middle.number + 1) middle.rest line (lines_left after) e).suffix in
+    record {
+      passed = has.passed ++ line ∷ [];
+      lines = has.lines ∙ ap (λ (lines : List Line). has.passed ++ lines) e ∙ sym (append_assoc has.passed (line ∷ []) (lines_left after));
+      place = is ∙ sym (behind_all-push before has.passed line);
+      front = has.front ++ suffix.0;
+      rest =
+          has.rest ∙ ap (λ (bytes : List ℕ). has.front ++ bytes) (suffix.1 ∙ ap (λ (place : Place). suffix.0 ++ place.rest) (sym is))
+          ∙ sym (append_assoc has.front suffix.0 after.rest);
+    }
+
+-- where the reader stays as it is
+pub passed_nothing : (before middle after : Place) → HasPassed before middle → after ≡ middle → HasPassed before after
+passed_nothing before middle after has is = subst (HasPassed before) (sym is) has
+
+-- ---- the number of the line that is refused
+
+by_test : {X : Type 0} (n : ℕ) (test : Bool) (first : TextBad) (next : Result X TextBad) (bad : TextBad) → refused_line first ≡ Some n
+    → (next ≡ Err bad → refused_line bad ≡ Some n) → refuse_if test first next ≡ Err bad → refused_line bad ≡ Some n
+by_test n true first next bad is later e = let same : first ≡ bad = cc in ap refused_line (sym same) ∙ is
+by_test n false first next bad is later e = later e
+
+by_rule : {X Y : Type 0} (n : ℕ) (rules : Result X RuleKind) (next : X → Y) (bad : TextBad) → and_then (rule_at n rules) (λ given. Ok (next given)) ≡ Err bad → refused_line bad ≡ Some n
+by_rule n (Ok given) next bad e = absurd cc
+by_rule n (Err rule) next bad e = let same : Rule n rule ≡ bad = cc in ap refused_line (sym same)
+
+ok_is_no_refusal : {X : Type 0} (n : ℕ) (x : X) (bad : TextBad) → Ok x ≡ Err bad → refused_line bad ≡ Some n
+ok_is_no_refusal n x bad e = absurd cc
+
+header_by_numbers : {G P : Type 0} (kind : Kind G P) (n : ℕ) (numbers : Option (List ℤ)) (bad : TextBad) → state_of_header kind n numbers ≡ Err bad → refused_line bad ≡ Some n
+header_by_numbers kind n None bad e = let same : Syntax n ≡ bad = cc in ap refused_line (sym same)
+header_by_numbers kind n (Some numbers) bad e = by_test n (not (are_in_range kind.header_patterns numbers)) (Range n) _ bad refl (ok_is_no_refusal n _ bad) e
+
+pub header_refusal : {G P : Type 0} (kind : Kind G P) (line : Line) (bad : TextBad) → header kind line ≡ Err bad → refused_line bad ≡ Some line.number
+unfolding header
+header_refusal kind line bad e = by_test line.number (is_wrong_kind kind.name line.fields) (WrongKind line.number) _ bad refl (header_by_numbers kind line.number _ bad) e
+
+step_by_match : {G P : Type 0} (kind : Kind G P) (state : State G) (n : ℕ) (found : Option (Match G)) (bad : TextBad) → state_of_match kind state n found ≡ Err bad → refused_line bad ≡ Some n
+step_by_match kind state n None bad e = let same : Syntax n ≡ bad = cc in ap refused_line (sym same)
+step_by_match kind state n (Some found) bad e =
+    by_test n (not (are_in_range found.form.patterns found.numbers)) (Range n) _ bad refl
+    (by_test n (found.form.is_counted && (state.counted_lines == kind.count state.header_numbers)) (Count n) _ bad refl
+    (by_rule n (found.form.rules found.numbers state.given) _ bad)) e
+
+pub step_refusal : {G P : Type 0} (kind : Kind G P) (state : State G) (line : Line) (bad : TextBad) → step kind state line ≡ Err bad → refused_line bad ≡ Some line.number
+unfolding step
+step_refusal kind state line bad e = step_by_match kind state line.number (match_of (kind.forms state.header_numbers) line.fields) bad e
+
+pub end_refusal : {G P : Type 0} (kind : Kind G P) (state : State G) (line : Line) (bad : TextBad) → end_line kind state line ≡ Err bad → refused_line bad ≡ Some line.number
+unfolding end_line
+end_refusal kind state line bad e = by_test line.number _ (Count line.number) _ bad refl (by_rule line.number (kind.problem state.header_numbers state.given) _ bad) e
+
+-- behind the line that is refused
+pub behind_refusal : {X Y : Type 0} (judged : Result Y TextBad) (value : X → Y) (answer : ReadBad) (line : Line) (place : Place)
+    → Agrees judged value (Err answer) → ((bad : TextBad) → judged ≡ Err bad → refused_line bad ≡ Some line.number) → place ≡ behind line → IsBehindRefusal answer place
+behind_refusal judged value (Text bad) line place e told is = rw (told bad e, is) refl
+behind_refusal judged value NoMemory line place e told is = tt
+
+pub behind_if_refused : {X Y : Type 0} (judged : Result Y TextBad) (value : X → Y) (result : Result X ReadBad) (line : Line) (place : Place)
+    → Agrees judged value result → ((bad : TextBad) → judged ≡ Err bad → refused_line bad ≡ Some line.number) → place ≡ behind line → IfErr result (λ bad. IsBehindRefusal bad place)
+behind_if_refused judged value (Ok x) line place e told is = tt
+behind_if_refused judged value (Err answer) line place e told is = behind_refusal judged value answer line place e told is
+
+-- ---- what was judged of all lines
+
+pub no_line : {G P : Type 0} (kind : Kind G P) (before : Place) → lines_left before ≡ [] → problem_of_lines kind (lines_left before) ≡ Err NoEnd
+no_line kind before none = rw none refl
+
+pub begun : {G P : Type 0} (kind : Kind G P) (before after : Place) (line : Line) (state : State G) → lines_left before ≡ line ∷ lines_left after → header kind line ≡ Ok state
+    → problem_of_lines kind (lines_left before) ≡ body kind state (lines_left after)
+begun kind before after line state e ok = rw (e, ok) refl
+
+pub refused_first : {X G P : Type 0} (kind : Kind G P) (before after : Place) (line : Line) (value : X → State G) (other : P → Accepted P) (answer : ReadBad)
+    → lines_left before ≡ line ∷ lines_left after → Agrees (header kind line) value (Err answer) → Agrees (problem_of_lines kind (lines_left before)) other (Err answer)
+refused_first kind before after line value other (Text bad) e err = rw (e, err) refl
+refused_first kind before after line value other NoMemory e err = tt
+
+pub stepped : {G P : Type 0} (kind : Kind G P) (before after : Place) (line : Line) (state next : State G) → lines_left before ≡ line ∷ lines_left after → is_end line.fields ≡ false → step kind state line ≡ Ok next
+    → body kind state (lines_left before) ≡ body kind next (lines_left after)
+stepped kind before after line state next e goes ok = rw (e, goes, ok) refl
+
+pub refused_later : {X G P : Type 0} (kind : Kind G P) (problem : Result (Accepted P) TextBad) (before after : Place) (line : Line) (state : State G) (value : X → State G) (other : P → Accepted P) (answer : ReadBad)
+    → problem ≡ body kind state (lines_left before) → lines_left before ≡ line ∷ lines_left after → is_end line.fields ≡ false → Agrees (step kind state line) value (Err answer)
+    → Agrees problem other (Err answer)
+refused_later kind problem before after line state value other (Text bad) same e goes err = rw (same, e, goes, err) refl
+refused_later kind problem before after line state value other NoMemory same e goes err = tt
+
+pub ended : {G P : Type 0} (kind : Kind G P) (problem : Result (Accepted P) TextBad) (before after : Place) (line : Line) (state : State G) → problem ≡ body kind state (lines_left before)
+    → lines_left before ≡ line ∷ lines_left after → is_end line.fields ≡ true → problem ≡ end_line kind state line
+ended kind problem before after line state same e ends = rw (same, e, ends) refl
+
+pub end_agrees_behind : {G P : Type 0} (kind : Kind G P) (problem : Result (Accepted P) TextBad) (state : State G) (line : Line) (after : Place) (result : Result P ReadBad) → problem ≡ end_line kind state line → after ≡ behind line
+    → Agrees (end_line kind state line) (λ problem. record { problem = problem; rest = line.rest; line = line.number }) result
+    → Agrees problem (λ problem. record { problem = problem; rest = after.rest; line = after.number }) result
+end_agrees_behind kind problem state line after result same is e = rw (same, is) e
+
+pub without_end : {G P : Type 0} (kind : Kind G P) (problem : Result (Accepted P) TextBad) (before : Place) (state : State G) → problem ≡ body kind state (lines_left before) → lines_left before ≡ [] → problem ≡ Err NoEnd
+without_end kind problem before state same none = rw (same, none) refl

@@ -1,0 +1,36 @@
+-- What a call answers that takes a piece of a text from its front.
+use Rattle.std.specs.Prelude.{◌≡◌, ℕ, ℤ, ◌≤ℤ◌, false, List, [], ◌∷◌, length, All, Result, Ok, Err}
+use Rattle.pf_text.specs.Numbers.{is_digit}
+use Rattle.pf_lines.specs.declared.errors.AnswerBad.{AnswerBad}
+use Rattle.pf_lines.specs.declared.errors.AnswerBad.TheVariants.{NotText, NoMemory}
+
+-- no digit stands in front
+abbrev pub Stops : List ℕ → Type 0
+Stops [] = Unit {0}
+Stops (b ∷ bytes) = is_digit b ≡ false
+
+-- memory was wanted, which says nothing of the text
+abbrev pub IsExcused : AnswerBad → Type 0
+IsExcused NotText = ⊥
+IsExcused NoMemory = Unit {0}
+
+-- The text has this value in front, and these bytes behind it: then the value is found, and these bytes are left, or memory
+-- was wanted.
+abbrev pub Takes : {X : Type 0} → X → List ℕ → Result X AnswerBad → List ℕ → Type 0
+Takes x rest (Ok y) left = (y ≡ x) × (left ≡ rest)
+Takes x rest (Err bad) left = IsExcused bad
+
+-- the same where nothing is found but that the piece is there
+abbrev pub Passes : List ℕ → Result (Unit {0}) AnswerBad → List ℕ → Type 0
+Passes rest (Ok y) left = left ≡ rest
+Passes rest (Err bad) left = IsExcused bad
+
+-- the number lies from the one to the other
+pub record IsBetween (min max number : ℤ) : Type 0 where
+  pub low : min ≤ℤ number
+  pub high : number ≤ℤ max
+
+-- so many numbers, each from the one to the other
+pub record IsRow (width : ℕ) (min max : ℤ) (numbers : List ℤ) : Type 0 where
+  pub full : length numbers ≡ width
+  pub each : All (IsBetween min max) numbers

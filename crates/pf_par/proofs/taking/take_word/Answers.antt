@@ -1,5 +1,0 @@
-use Rattle.pf_par.proofs.TakingLemmas.{rest_is}
-use Rattle.pf_par.proofs.taking.take_word.Goals as goal
-
-pub returns-then-word-clause-found : goal.returns-then-word-clause-found
-returns-then-word-clause-found c = λ rest e. rest_is c.args.text.now c.args.word.now c.word.new.self rest c.if-word.ensures.taken e

@@ -1,7 +1,0 @@
-use Rattle.std.proofs.Common.{take, Ok}
-use Rattle.pf_io.specs.Printing.{Adds}
-use Rattle.pf_par.specs.Taking.{numbers_text}
-use Rattle.pf_par.proofs.writing.print_numbers.Given as goal
-
-abbrev pub invariant-items : goal.invariant-items
-invariant-items g l = Adds {T = Unit {0}} l.fn.out l.out (numbers_text (take l.number-index l.numbers)) (Ok tt)

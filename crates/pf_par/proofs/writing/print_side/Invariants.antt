@@ -1,7 +1,0 @@
-use Rattle.std.proofs.Common.{take, Ok}
-use Rattle.pf_io.specs.Printing.{Adds}
-use Rattle.pf_text.specs.Answers.{side_text}
-use Rattle.pf_par.proofs.writing.print_side.Given as goal
-
-abbrev pub invariant-nodes : goal.invariant-nodes
-invariant-nodes g l = Adds {T = Unit {0}} l.fn.out l.out (side_text (take l.inside-index l.side)) (Ok tt)

@@ -1,0 +1,39 @@
+-- How lines are spelled: fields with one space between them, and a line feed behind each line.
+use Rattle.std.specs.Prelude.{ℕ, ℤ, Bool, if◌then◌else◌, List, [], ◌∷◌, ◌++◌, map}
+use Rattle.std.specs.List.{join_with_byte}
+use Rattle.std.specs.Fmt.{decimal, signed_decimal}
+use Rattle.pf_model.specs.Fraction.{Fraction}
+
+-- a line of these fields
+abbrev pub line : List (List ℕ) → List ℕ
+line fields = join_with_byte 32 fields ++ 10 ∷ []
+
+-- fields, each with a space in front
+abbrev pub spaced : List (List ℕ) → List ℕ
+spaced [] = []
+spaced (field ∷ fields) = (32 ∷ field) ++ spaced fields
+
+-- what stands behind the first field of a line: the other fields, each with a space in front, and the line feed
+abbrev pub rest_of_line : List (List ℕ) → List ℕ
+rest_of_line [] = 10 ∷ []
+rest_of_line (field ∷ fields) = (32 ∷ field) ++ rest_of_line fields
+
+-- one character for each node: `1` in, `0` out
+abbrev pub side_text : List Bool → List ℕ
+side_text [] = []
+side_text (inside ∷ others) = (if inside then 49 else 48) ∷ side_text others
+
+-- the two numbers of a fraction, each with a space in front
+abbrev pub fraction_text : Fraction → List ℕ
+fraction_text at = (32 ∷ signed_decimal at.p) ++ (32 ∷ signed_decimal at.q)
+
+-- numbers, each with a space in front
+abbrev pub numbers_text : List ℤ → List ℕ
+numbers_text numbers = spaced (map signed_decimal numbers)
+
+-- a line of a word and numbers, and one that has a number of its own behind the word
+abbrev pub row_line : List ℕ → List ℤ → List ℕ
+row_line word numbers = line (word ∷ map signed_decimal numbers)
+
+abbrev pub numbered_line : List ℕ → ℕ → List ℤ → List ℕ
+numbered_line word index numbers = line (word ∷ decimal index ∷ map signed_decimal numbers)
