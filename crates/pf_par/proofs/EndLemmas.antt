@@ -10,8 +10,8 @@ use Rattle.pf_model.specs.declared.AffineArc.{AffineArc}
 use Rattle.pf_model.specs.declared.Sense.TheVariants.{Rising}
 use Rattle.pf_model.specs.Fraction.{Fraction, IsBelow, is_below}
 use Rattle.pf_model.specs.Network.{Network, IsMonotone, IsMonotoneArc, capacity_at}
-use Rattle.pf_text.specs.Par.{ParameterInterval}
-use Rattle.pf_text.specs.Laws.{IsTextFraction, IsTextArc, IsTextNetwork}
+use Rattle.pf_par.specs.Text.{ParameterInterval}
+use Rattle.pf_par.specs.Laws.{IsTextFraction, IsTextArc, IsTextNetwork}
 use Rattle.pf_net.specs.declared.net.NetBad.{NetBad}
 use Rattle.pf_net.specs.declared.net.NetBad.TheVariants.{TooBig, SameEnds, EmptyInterval, BadEnd, NotMonotone, Negative, NoMemory}
 use Rattle.pf_net.specs.Refusal.{is_large, is_far, is_too_big, arc_refusal, arcs_refusal, refusal_of}

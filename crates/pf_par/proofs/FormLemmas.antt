@@ -5,7 +5,7 @@ use Rattle.std.specs.Str.{bytes_eq}
 use Rattle.std.proofs.lemmas.Slice.Eq.{bytes_eq-Decides}
 use Rattle.pf_text.specs.Numbers.{whole_of}
 use Rattle.pf_text.specs.Kinds.{FieldPattern, number, word, numbers_by, match_of}
-use Rattle.pf_text.specs.Par.{par, node_count, node_number, coefficient, denominator, interval_form, source_form, sink_form, arc_form}
+use Rattle.pf_par.specs.Text.{par, node_count, node_number, coefficient, denominator, interval_form, source_form, sink_form, arc_form}
 use Rattle.pf_text.proofs.KindsLemmas.{with_number_none, numbers_by_count}
 
 -- a field that is compared with a word

@@ -8,7 +8,7 @@ use Rattle.pf_text.specs.declared.TextBad.TheVariants.{Range, Count, Rule}
 use Rattle.pf_text.specs.Lines.{Line}
 use Rattle.pf_text.specs.Numbers.{whole_of}
 use Rattle.pf_text.specs.Kinds.{Form, Kind, State, with_number, numbers_by, are_in_range, first_of, match_of, rule_at, and_then, refuse_if, state_of_match, step}
-use Rattle.pf_text.specs.Par.{Given, par, node_number, coefficient, denominator, interval_form, source_form, sink_form, arc_form}
+use Rattle.pf_par.specs.Text.{Given, par, node_number, coefficient, denominator, interval_form, source_form, sink_form, arc_form}
 use Rattle.pf_text.proofs.KindsLemmas.{HasPlace, with_number_none}
 use Rattle.pf_lines.specs.declared.numbers.Bad.{Bad}
 use Rattle.pf_lines.specs.declared.numbers.Bad.TheVariants.{OutOfRange}

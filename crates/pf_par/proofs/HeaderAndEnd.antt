@@ -11,8 +11,8 @@ use Rattle.pf_text.specs.declared.TextBad.TheVariants.{Syntax, Range, Count, Wro
 use Rattle.pf_text.specs.Lines.{Line}
 use Rattle.pf_text.specs.Numbers.{whole_of}
 use Rattle.pf_text.specs.Kinds.{State, word, numbers_by, are_in_range, is_wrong_kind, and_then, refuse_if, rule_at, state_of_header, header, end_line, problem_of_lines}
-use Rattle.pf_text.specs.Par.{Given, par, par_header, node_count, arc_count, network_by}
-use Rattle.pf_text.proofs.ParLaw.{accepted_lines_are_good}
+use Rattle.pf_par.specs.Text.{Given, par, par_header, node_count, arc_count, network_by}
+use Rattle.pf_par.proofs.ParLaw.{accepted_lines_are_good}
 use Rattle.pf_lines.specs.Places.{Place, lines_left}
 use Rattle.pf_text.proofs.KindsLemmas.{header_wrong_kind, header_syntax, end_count}
 use Rattle.pf_lines.specs.declared.numbers.Bad.{Bad}

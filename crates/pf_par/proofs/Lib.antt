@@ -1,3 +1,11 @@
+pub mod Rows
+pub mod RightRows
+pub mod ParLemmas
+pub mod ParLaw
+pub mod AnswersLemmas
+pub mod SameAnswers
+pub mod SameCurves
+pub mod RightLemmas
 pub mod WritingLemmas
 pub mod LineNumbers
 pub mod FormSteps

@@ -3,7 +3,8 @@ use Rattle.std.proofs.Common.{◌≡◌, ℕ, List, [], ◌∷◌, Result, Ok, a
 use Rattle.std.specs.Prelude.{ℤ, pos, neg_ℤ, ◌≤ℤ◌}
 use Rattle.std.proofs.lemmas.Int.{ints}
 use Rattle.pf_text.specs.Kinds.{number}
-use Rattle.pf_text.specs.Par.{billion, coefficient, denominator}
+use Rattle.pf_text.specs.Numbers.{billion}
+use Rattle.pf_par.specs.Text.{coefficient, denominator}
 use Rattle.pf_lines.specs.Ranges.{ranged_numbers}
 use Rattle.pf_lines.proofs.RangedNumbers.{ranged_fits, back}
 use Rattle.pf_par.specs.Rules.{IsEnd}

@@ -7,7 +7,7 @@ use Rattle.std.specs.Fmt.{decimal, signed_decimal}
 use Rattle.pf_model.specs.Fraction.{Fraction}
 use Rattle.pf_model.specs.Network.{Network, cut_a, cut_b}
 use Rattle.pf_text.specs.Spelling.{line, side_text, rest_of_line, fraction_text}
-use Rattle.pf_text.specs.Answers.{cut_fields}
+use Rattle.pf_par.specs.Answers.{cut_fields}
 use Rattle.pf_par.specs.Outline.{value_fields}
 use Rattle.pf_par.specs.declared.outline.Segment.{Segment}
 use Rattle.pf_par.specs.declared.outline.ValuedPoint.{ValuedPoint}

@@ -10,8 +10,8 @@ use Rattle.pf_text.specs.declared.TextBad.{TextBad}
 use Rattle.pf_text.specs.declared.TextBad.TheVariants.{Count, Rule}
 use Rattle.pf_text.specs.Lines.{Line}
 use Rattle.pf_text.specs.Numbers.{whole_of}
-use Rattle.pf_text.specs.Kinds.{State, FieldPattern, and_then, rule_at, step}
-use Rattle.pf_text.specs.Par.{ParameterInterval, Given, par, node_count, arc_count, node_index, node_number, coefficient, denominator, broken_if, is_given, fraction, interval_form, source_form, sink_form, arc_form, interval_rules, source_rules, sink_rules, arc_rules, arc_rules_by}
+use Rattle.pf_text.specs.Kinds.{State, FieldPattern, and_then, rule_at, step, broken_if}
+use Rattle.pf_par.specs.Text.{ParameterInterval, Given, par, node_count, arc_count, node_index, node_number, coefficient, denominator, is_given, fraction, interval_form, source_form, sink_form, arc_form, interval_rules, source_rules, sink_rules, arc_rules, arc_rules_by}
 use Rattle.pf_lines.specs.declared.numbers.Bad.{Bad}
 use Rattle.pf_lines.specs.declared.numbers.Bad.TheVariants.{NotNumber, OutOfRange}
 use Rattle.pf_lines.specs.Values.{within_range}

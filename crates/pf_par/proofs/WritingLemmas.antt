@@ -10,7 +10,7 @@ use Rattle.pf_model.specs.Answer.{IsFlowShape}
 use Rattle.pf_frame.specs.Numbers.{IsSized}
 use Rattle.pf_net.specs.Limits.{graph_of}
 use Rattle.pf_text.specs.Spelling.{line, side_text, spaced, rest_of_line, numbers_text}
-use Rattle.pf_text.specs.Answers.{point_fields, segments_text, points_text}
+use Rattle.pf_par.specs.Answers.{point_fields, segments_text, points_text}
 
 -- a flow of the right shape has a number of the right size for each arc
 pub sized : (net : Network) (flow : List ℤ) → IsFlowShape net flow → IsSized (graph_of net) flow

@@ -3,7 +3,7 @@ use Rattle.std.specs.Prelude.{◌≡◌, ℕ, ℤ, List, ◌++◌, length, map, 
 use Rattle.pf_model.specs.Flow.{flow_value}
 use Rattle.pf_model.specs.Network.{Network, ends_of}
 use Rattle.pf_model.specs.Answer.{IsFlowShape}
-use Rattle.pf_text.specs.Answers.{flows_text}
+use Rattle.pf_par.specs.Answers.{flows_text}
 use Rattle.pf_par.specs.Outline.{IsOutlineShape, outline_text}
 use Rattle.pf_par.specs.declared.reading_curve.Parts.{Parts}
 

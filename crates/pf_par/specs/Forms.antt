@@ -1,7 +1,7 @@
 -- The forms of lines of a text of the kind `par`, by their words.
 use Rattle.std.specs.Prelude.{◌≡◌, ℕ, List, [], ◌∷◌, ℤ, Option, Some, None, slice_index_or, codes}
 use Rattle.pf_text.specs.Kinds.{match_of}
-use Rattle.pf_text.specs.Par.{par}
+use Rattle.pf_par.specs.Text.{par}
 use Rattle.pf_par.specs.declared.reading_forms.LineForm.{LineForm}
 use Rattle.pf_par.specs.declared.reading_forms.LineForm.TheVariants.{Interval, Source, Sink, Arc}
 

@@ -6,7 +6,7 @@ use Rattle.pf_model.specs.Flow.{flow_value}
 use Rattle.pf_model.specs.Network.{Network, IsNetworkCut, ends_of}
 use Rattle.pf_model.specs.Answer.{IsWithinSize, IsFractionShape}
 use Rattle.pf_text.specs.Spelling.{line}
-use Rattle.pf_text.specs.Answers.{cut_fields}
+use Rattle.pf_par.specs.Answers.{cut_fields}
 use Rattle.pf_par.specs.declared.outline.Outline.{Outline}
 use Rattle.pf_par.specs.declared.outline.ValuedPoint.{ValuedPoint}
 use Rattle.pf_par.specs.declared.outline.Segment.{Segment}

@@ -1,7 +1,7 @@
 -- What was given so far, as the definition sees it.
 use Rattle.std.specs.Prelude.{[], ◌∷◌, length, pos}
 use Rattle.pf_text.specs.Kinds.{State}
-use Rattle.pf_text.specs.Par.{Given}
+use Rattle.pf_par.specs.Text.{Given}
 use Rattle.pf_par.specs.declared.reading_state.ParState.{ParState}
 
 abbrev pub given_of : ParState → Given

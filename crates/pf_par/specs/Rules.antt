@@ -6,8 +6,9 @@ use Rattle.pf_model.specs.Network.{Network, IsMonotone}
 use Rattle.pf_text.specs.declared.RuleKind.{RuleKind}
 use Rattle.pf_text.specs.Kinds.{State, Accepted, end_line}
 use Rattle.pf_text.specs.Lines.{Line}
-use Rattle.pf_text.specs.Laws.{IsTextNetwork}
-use Rattle.pf_text.specs.Par.{ParameterInterval, Given, billion, network_by, par}
+use Rattle.pf_par.specs.Laws.{IsTextNetwork}
+use Rattle.pf_par.specs.Text.{ParameterInterval, Given, network_by, par}
+use Rattle.pf_text.specs.Numbers.{billion}
 
 -- the rule that is broken decides, and else what follows
 abbrev pub broken_by : {X : Type 0} → Option RuleKind → Result X RuleKind → Result X RuleKind

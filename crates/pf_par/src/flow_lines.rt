@@ -2,7 +2,7 @@
 ghost use Rattle.std.specs.Prelude.{◌≡◌, ◌++◌, ◌∷◌, [], ℕ, ℤ, List, length, All, IfOk, Err, codes};
 ghost use Rattle.pf_model.specs.Answer.{IsFlowShape};
 ghost use Rattle.pf_lines.specs.declared.errors.AnswerBad.{AnswerBad};
-ghost use Rattle.pf_text.specs.Answers.{flows_text};
+ghost use Rattle.pf_par.specs.Answers.{flows_text};
 ghost use Rattle.pf_lines.specs.Taking.{Stops, Takes};
 ghost use Rattle.pf_text.specs.Spelling.{numbers_text};
 ghost use Rattle.pf_par.specs.FlowLines.{IsFlowRow, flow_line};

@@ -8,6 +8,7 @@
 #![tactic(auto)]
 
 mod flow_lines;
+pub mod laws;
 mod outline;
 mod reading;
 mod reading_curve;

@@ -5,7 +5,7 @@ ghost use Rattle.pf_model.specs.Fraction.{Fraction};
 ghost use Rattle.pf_model.specs.Network.{IsNetworkCut, cut_a, cut_b};
 ghost use Rattle.pf_model.specs.Answer.{IsFractionShape, IsWithinSize};
 ghost use Rattle.pf_text.specs.Spelling.{line, side_text, rest_of_line, fraction_text};
-ghost use Rattle.pf_text.specs.Answers.{cut_fields};
+ghost use Rattle.pf_par.specs.Answers.{cut_fields};
 ghost use Rattle.pf_par.specs.Outline.{IsOutlineShape, IsSegmentShape, IsValuedShape, cut_line, outline_text, point_line, points_outline, segment_text, value_fields};
 ghost use Rattle.pf_lines.specs.Taking.{IsExcused, Stops, Takes};
 ghost use Rattle.pf_par.specs.declared.outline.Outline.{Outline};

@@ -1,7 +1,7 @@
 // Reading of texts of the kind `par`.
 ghost use Rattle.std.specs.Prelude.{◌≡◌, IfErr};
 ghost use Rattle.pf_text.specs.Kinds.{problem_of_lines};
-ghost use Rattle.pf_text.specs.Par.{par};
+ghost use Rattle.pf_par.specs.Text.{par};
 ghost use Rattle.pf_lines.specs.Places.{lines_left};
 ghost use Rattle.pf_lines.specs.Reading.{Agrees, IsBehindRefusal, HasPassed};
 

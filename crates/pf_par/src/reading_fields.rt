@@ -1,8 +1,8 @@
 // The fields of a line, and the numbers in them.
 ghost use Rattle.std.specs.Prelude.{◌≡◌, ◌<◌, ◌≤◌, [], ◌∷◌, ◌^◌, length, slice_index_or, pos, neg_ℤ, ◌≤ℤ◌};
 ghost use Rattle.pf_text.specs.Kinds.{number};
-ghost use Rattle.pf_text.specs.Numbers.{whole_of};
-ghost use Rattle.pf_text.specs.Par.{billion, coefficient, denominator, node_index};
+ghost use Rattle.pf_text.specs.Numbers.{whole_of, billion};
+ghost use Rattle.pf_par.specs.Text.{coefficient, denominator, node_index};
 ghost use Rattle.pf_lines.specs.Values.{within_range};
 ghost use Rattle.pf_lines.specs.Ranges.{ranged_numbers, listed};
 

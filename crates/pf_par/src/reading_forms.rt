@@ -2,7 +2,7 @@
 ghost use Rattle.std.specs.Prelude.{◌≡◌, ◌∷◌, [], slice_index_or, length, None, codes};
 ghost use Rattle.std.specs.Bool.{MatchBool};
 ghost use Rattle.pf_text.specs.Kinds.{word, numbers_by};
-ghost use Rattle.pf_text.specs.Par.{par_header};
+ghost use Rattle.pf_par.specs.Text.{par_header};
 ghost use Rattle.pf_par.specs.Forms.{IsForm};
 
 use pf_lines::{TextLine, field};

@@ -5,9 +5,9 @@ ghost use Rattle.pf_model.specs.Fraction.{is_below};
 ghost use Rattle.pf_model.specs.Network.{capacity_at};
 ghost use Rattle.pf_text.specs.declared.RuleKind.{RuleKind};
 ghost use Rattle.pf_text.specs.declared.RuleKind.TheVariants.{Repeated, Ends};
-ghost use Rattle.pf_text.specs.Kinds.{rule_at};
-ghost use Rattle.pf_text.specs.Laws.{IsTextArc};
-ghost use Rattle.pf_text.specs.Par.{Given, broken_if, is_given, fraction, arc_rules_by, network_by};
+ghost use Rattle.pf_text.specs.Kinds.{rule_at, broken_if};
+ghost use Rattle.pf_par.specs.Laws.{IsTextArc};
+ghost use Rattle.pf_par.specs.Text.{Given, is_given, fraction, arc_rules_by, network_by};
 ghost use Rattle.pf_lines.specs.Reading.{Agrees};
 ghost use Rattle.pf_par.specs.Rules.{broken_by, IsEnd, IsGoodEnd};
 
@@ -27,7 +27,7 @@ pub struct Interval {
 }
 
 impl Model for Interval {
-    ghost use Rattle.pf_text.specs.Par.{ParameterInterval};
+    ghost use Rattle.pf_par.specs.Text.{ParameterInterval};
 
     ghost Value = { ParameterInterval };
 

@@ -1,7 +1,7 @@
 // What the lines of a text have given so far.
 ghost use Rattle.std.specs.Prelude.{◌≡◌, ◌∷◌, [], slice_index_or};
 ghost use Rattle.pf_text.specs.Kinds.{step, end_line, header};
-ghost use Rattle.pf_text.specs.Par.{par};
+ghost use Rattle.pf_par.specs.Text.{par};
 ghost use Rattle.pf_par.specs.Forms.{HasForm};
 ghost use Rattle.pf_par.specs.ParState.{state_of};
 ghost use Rattle.pf_lines.specs.Reading.{Agrees};

@@ -5,7 +5,7 @@ ghost use Rattle.pf_model.specs.Network.{IsNetworkCut};
 ghost use Rattle.pf_model.specs.Answer.{IsFlowShape, IsPointShape, IsCurveShape};
 ghost use Rattle.pf_io.specs.Printing.{Adds, is_spent};
 ghost use Rattle.pf_text.specs.Spelling.{line, side_text, spaced, rest_of_line};
-ghost use Rattle.pf_text.specs.Answers.{point_fields, cut_fields, point_text, segments_text, points_text, flows_text, curve_text};
+ghost use Rattle.pf_par.specs.Answers.{point_fields, cut_fields, point_text, segments_text, points_text, flows_text, curve_text};
 
 use pf_curve::{Curve, Point};
 use pf_frame::value;

@@ -3,8 +3,7 @@ use Rattle.std.proofs.Common.{◌≡◌, ℕ, suc, ◌+◌, ◌<◌, ◌≤◌, 
 use Rattle.std.specs.Prelude.{pos, neg_ℤ}
 use Rattle.std.specs.List.{position, position_or_len}
 use Rattle.pf_model.specs.Fraction.{Fraction}
-use Rattle.pf_text.specs.Numbers.{natural_of, whole_of}
-use Rattle.pf_text.specs.Par.{billion}
+use Rattle.pf_text.specs.Numbers.{natural_of, whole_of, billion}
 use Rattle.pf_text.specs.Words.{split_at_slash, natural_within, integer_within, fraction_of_numbers, parameter_of}
 use Rattle.pf_text.proofs.LinesLemmas.{at_position, no_position}
 

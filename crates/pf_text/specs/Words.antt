@@ -2,8 +2,7 @@
 use Rattle.std.specs.Prelude.{ℕ, ◌&&◌, ◌==◌, nat_le, if◌then◌else◌, List, [], ◌∷◌, ℤ, pos, neg_ℤ, int_le, Option, Some, None}
 use Rattle.std.specs.Option.{option_map, option_and_then}
 use Rattle.pf_model.specs.Fraction.{Fraction, lowest}
-use Rattle.pf_text.specs.Numbers.{natural_of, whole_of}
-use Rattle.pf_text.specs.Par.{billion}
+use Rattle.pf_text.specs.Numbers.{natural_of, whole_of, billion}
 
 -- the bytes before the first slash and behind it
 abbrev pub split_at_slash : List ℕ → Option (List ℕ × List ℕ)

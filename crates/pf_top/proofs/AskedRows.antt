@@ -7,9 +7,10 @@ use Rattle.pf_text.specs.declared.Refusal.TheVariants.{Text, Outside}
 use Rattle.pf_text.specs.Lines.{raw_lines, fields, lines_from}
 use Rattle.pf_text.specs.Numbers.{natural_of, whole_of}
 use Rattle.pf_text.specs.Kinds.{header, step, end_line, problem_of}
-use Rattle.pf_text.specs.Par.{par}
+use Rattle.pf_par.specs.Text.{par}
 use Rattle.pf_text.specs.Words.{parameter_of}
-use Rattle.pf_text.proofs.Rows.{text, two_lines, two}
+use Rattle.pf_text.proofs.Rows.{text}
+use Rattle.pf_par.proofs.Rows.{two_lines, two}
 use Rattle.pf_top.specs.Task.{at, curve, answer, check}
 use Rattle.pf_top.specs.Asked.{usage, refused, accepted, command_of, asked}
 

@@ -6,8 +6,7 @@ use Rattle.std.specs.Int.{w64}
 use Rattle.std.proofs.lemmas.Int.{ints}
 use Rattle.std.proofs.lemmas.Bool.Decides.{nat_tests}
 use Rattle.pf_model.specs.Fraction.{IsBoundedFraction, lowest}
-use Rattle.pf_text.specs.Numbers.{natural_of, whole_of}
-use Rattle.pf_text.specs.Par.{billion}
+use Rattle.pf_text.specs.Numbers.{natural_of, whole_of, billion}
 use Rattle.pf_text.specs.Words.{natural_within, integer_within, fraction_of_numbers}
 use Rattle.pf_top.specs.Asked.{one_word, two_words, command_of}
 use Rattle.pf_text.proofs.NumbersLemmas.{whole_of-minus, whole_of-plain, natural_of-others}

@@ -12,9 +12,8 @@ use Rattle.pf_text.specs.declared.Refusal.TheVariants as refusals
 use Rattle.std.proofs.lemmas.Bool.{lt-ltb}
 use Rattle.pf_text.specs.declared.TextBad.{TextBad}
 use Rattle.pf_text.specs.Kinds.{Accepted, problem_of}
-use Rattle.pf_text.specs.Answers.{verdict_text}
-use Rattle.pf_text.specs.Right.{IsRightVerdict}
-use Rattle.pf_text.proofs.SameAnswers.{same_verdict}
+use Rattle.pf_text.specs.Verdict.{verdict_text, IsRightVerdict}
+use Rattle.pf_text.proofs.VerdictLemmas.{same_verdict}
 use Rattle.pf_top.specs.Task.{Name, task_of, ProblemOf, Command, answer, check, name_of}
 use Rattle.pf_top.specs.Asked.{Asked, usage, refused, accepted, unless, refusal_behind, refusal_of, asked_of_read, asked_of_bytes, asked, command_of, IsRight}
 use Rattle.pf_top.specs.Answering.{IsRefused}

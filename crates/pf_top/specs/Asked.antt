@@ -8,9 +8,8 @@ use Rattle.pf_text.specs.declared.Refusal.{Refusal}
 use Rattle.pf_text.specs.declared.Refusal.TheVariants.{Text, TooLong}
 use Rattle.pf_text.specs.Lines.{Line, lines_from}
 use Rattle.pf_text.specs.Kinds.{Accepted, problem_of}
-use Rattle.pf_text.specs.Answers.{verdict_text}
+use Rattle.pf_text.specs.Verdict.{verdict_text, IsRightVerdict}
 use Rattle.pf_text.specs.Words.{parameter_of}
-use Rattle.pf_text.specs.Right.{IsRightVerdict}
 use Rattle.pf_top.specs.Task.{at, curve, task_of, ProblemOf, Command, answer, check, name_of}
 
 abbrev pub one_word : List ℕ → Option Command

@@ -5,8 +5,8 @@ use Rattle.pf_model.specs.Network.{Network}
 use Rattle.pf_text.specs.declared.Refusal.{Refusal}
 use Rattle.pf_text.specs.declared.Refusal.TheVariants.{Outside}
 use Rattle.pf_text.specs.Kinds.{Kind}
-use Rattle.pf_text.specs.Par.{Given, par}
-use Rattle.pf_text.specs.Right.{is_outside, IsRightPoint, IsRightCurve, IsCertifiedCurve}
+use Rattle.pf_par.specs.Text.{Given, par}
+use Rattle.pf_par.specs.Right.{is_outside, IsRightPoint, IsRightCurve, IsCertifiedCurve}
 
 pub record Task : Type 1 where
   -- what the lines of its text have given so far, and the problem that they give

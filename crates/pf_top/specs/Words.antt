@@ -4,8 +4,7 @@ use Rattle.std.specs.String.{string_bytes}
 use Rattle.std.specs.declared.string.String.{String}
 use Rattle.std.specs.declared.alloc.Global.{Global}
 use Rattle.pf_model.specs.Fraction.{Fraction}
-use Rattle.pf_text.specs.Numbers.{natural_of, whole_of}
-use Rattle.pf_text.specs.Par.{billion}
+use Rattle.pf_text.specs.Numbers.{natural_of, whole_of, billion}
 use Rattle.pf_text.specs.Words.{natural_within, integer_within, fraction_of_numbers}
 use Rattle.pf_top.specs.Task.{at, curve, Command, answer, check}
 use Rattle.pf_top.specs.declared.words.Request.{Request}

@@ -2,7 +2,7 @@
 ghost use Rattle.std.specs.Prelude.{◌≡◌, ◌≢◌, ◌↔◌, ℕ, ◌^◌, ◌≤◌, List, length, true, false, Some, None, Err, IfOk, OnOk, if◌then◌else◌};
 ghost use Rattle.pf_text.specs.declared.Refusal.{Refusal};
 ghost use Rattle.pf_text.specs.Kinds.{problem_of_lines};
-ghost use Rattle.pf_text.specs.Answers.{verdict_text};
+ghost use Rattle.pf_text.specs.Verdict.{verdict_text};
 ghost use Rattle.pf_lines.specs.Places.{lines_left};
 ghost use Rattle.pf_lines.specs.Reading.{Agrees};
 ghost use Rattle.pf_io.specs.Faults.{HasCause};

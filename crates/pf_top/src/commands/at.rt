@@ -1,6 +1,6 @@
 // `at P/Q`: the smallest least cut at one parameter, and a greatest flow there.
 ghost use Rattle.pf_model.specs.Answer.{IsPointShape};
-ghost use Rattle.pf_text.specs.Answers.{point_text};
+ghost use Rattle.pf_par.specs.Answers.{point_text};
 ghost use Rattle.pf_top.specs.Task.{at};
 
 use crate::task::{Stop, Task};

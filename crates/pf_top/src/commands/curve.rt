@@ -2,8 +2,8 @@
 ghost use Rattle.std.specs.Prelude.{◌≡◌, ◌↔◌, true, IfOk};
 ghost use Rattle.pf_model.specs.Answer.{IsCurveShape};
 ghost use Rattle.pf_model.specs.Curve.{CertifiesCurve};
-ghost use Rattle.pf_text.specs.Answers.{curve_text};
-ghost use Rattle.pf_text.specs.Right.{IsCertifiedCurve};
+ghost use Rattle.pf_par.specs.Answers.{curve_text};
+ghost use Rattle.pf_par.specs.Right.{IsCertifiedCurve};
 ghost use Rattle.pf_top.specs.Task.{curve};
 
 use crate::task::{Checked, Stop, Task};

@@ -1,7 +1,7 @@
 use Rattle.std.proofs.Common.{◌∙◌, sym}
 use Rattle.std.proofs.lemmas.Result.{err_from_is_err_and}
 use Rattle.pf_text.specs.Kinds.{header, step, end_line, problem_of_lines}
-use Rattle.pf_text.specs.Par.{par}
+use Rattle.pf_par.specs.Text.{par}
 use Rattle.pf_lines.specs.Places.{lines_left}
 use Rattle.pf_par.specs.ParState.{state_of}
 use Rattle.pf_lines.proofs.PassedLines.{passed_none, passed_more, passed_nothing, header_refusal, step_refusal, end_refusal, behind_refusal, behind_if_refused, begun, stepped, ended}

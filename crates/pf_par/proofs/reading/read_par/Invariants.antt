@@ -1,6 +1,6 @@
 use Rattle.std.proofs.Common.{◌≡◌, length}
 use Rattle.pf_text.specs.Kinds.{body, problem_of_lines}
-use Rattle.pf_text.specs.Par.{par}
+use Rattle.pf_par.specs.Text.{par}
 use Rattle.pf_lines.specs.Places.{lines_left}
 use Rattle.pf_par.specs.ParState.{state_of}
 use Rattle.pf_lines.specs.Reading.{HasPassed}

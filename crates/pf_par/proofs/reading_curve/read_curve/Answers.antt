@@ -1,7 +1,7 @@
 use Rattle.std.proofs.Common.{◌≡◌, [], ◌++◌, ℕ, List, true, sym, ap, ◌∙◌}
 use Rattle.std.proofs.lemmas.List.{append-nil}
 use Rattle.std.proofs.lemmas.Result.{err_from_is_err_and}
-use Rattle.pf_text.specs.Answers.{curve_text}
+use Rattle.pf_par.specs.Answers.{curve_text}
 use Rattle.pf_par.specs.CurveParts.{parts_text}
 use Rattle.pf_lines.proofs.RowsTaken.{only_memory, not_refused}
 use Rattle.pf_par.proofs.CurveReadingLemmas.{parts_of, parts_shape, nothing_behind, parts_of_curve, values_are}

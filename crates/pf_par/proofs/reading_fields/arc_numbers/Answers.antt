@@ -1,5 +1,5 @@
 use Rattle.std.specs.Prelude.{pos, neg_ℤ, slice_index_or, []}
-use Rattle.pf_text.specs.Par.{billion}
+use Rattle.pf_text.specs.Numbers.{billion}
 use Rattle.pf_lines.proofs.RangedNumbers.{four_numbers}
 use Rattle.pf_par.proofs.reading_fields.arc_numbers.Goals as goal
 

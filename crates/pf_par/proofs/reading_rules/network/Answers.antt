@@ -1,5 +1,5 @@
 use Rattle.std.proofs.Common.{◌≡◌, Some, refl, sym, ap, ◌∙◌}
-use Rattle.pf_text.specs.Par.{ParameterInterval}
+use Rattle.pf_par.specs.Text.{ParameterInterval}
 use Rattle.pf_par.proofs.reading_rules.network.Goals.{in-NoMemory, in_default-matches}
 use Rattle.pf_par.proofs.EndLemmas.{network_of, good_network, refused_by_memory}
 use Rattle.pf_par.proofs.reading_rules.network.Goals as goal

@@ -4,7 +4,7 @@ use Rattle.std.specs.Fmt.{signed_decimal}
 use Rattle.std.proofs.lemmas.Result.{err_from_is_err_and}
 use Rattle.pf_io.proofs.PrintingLemmas.{adds_then, adds_stopped}
 use Rattle.pf_text.specs.Spelling.{line}
-use Rattle.pf_text.specs.Answers.{point_fields, cut_fields, point_text}
+use Rattle.pf_par.specs.Answers.{point_fields, cut_fields, point_text}
 use Rattle.pf_par.proofs.writing.print_answer.Goals as goal
 
 pub returns-in_err-word : goal.returns-in_err-word

@@ -1,8 +1,8 @@
 use Rattle.std.proofs.Common.{◌<◌, ◌≤◌, length, ap, arith}
 use Rattle.std.proofs.lemmas.List.{at_drop_all}
 use Rattle.std.proofs.lemmas.Result.{err_from_is_err_and}
-use Rattle.pf_text.specs.Answers.{flows_text}
-use Rattle.pf_text.proofs.AnswersLemmas.{flows_text_at}
+use Rattle.pf_par.specs.Answers.{flows_text}
+use Rattle.pf_par.proofs.AnswersLemmas.{flows_text_at}
 use Rattle.pf_io.proofs.PrintedLemmas.{printed_begin, printed_more, printed_stopped, printed_end}
 use Rattle.pf_par.proofs.writing.print_flows.Goals as goal
 

@@ -1,5 +1,5 @@
 use Rattle.std.proofs.Common.{drop}
-use Rattle.pf_text.specs.Answers.{flows_text}
+use Rattle.pf_par.specs.Answers.{flows_text}
 use Rattle.pf_io.proofs.PrintedLemmas.{HasPrinted}
 use Rattle.pf_par.proofs.writing.print_flows.Given as goal
 

@@ -3,7 +3,7 @@ use Rattle.std.proofs.lemmas.Result.{err_from_is_err_and}
 use Rattle.pf_io.proofs.PrintingLemmas.{adds_then, adds_stopped}
 use Rattle.pf_text.specs.Spelling.{rest_of_line}
 use Rattle.pf_text.proofs.SpellingLemmas.{line_is}
-use Rattle.pf_text.specs.Answers.{point_fields}
+use Rattle.pf_par.specs.Answers.{point_fields}
 use Rattle.pf_par.proofs.writing.print_only_point.Goals as goal
 
 pub returns-in_err-word : goal.returns-in_err-word

@@ -1,6 +1,6 @@
 use Rattle.std.proofs.Common.{◌∷◌, []}
 use Rattle.std.specs.Fmt.{decimal}
-use Rattle.pf_text.specs.Answers.{point_fields}
+use Rattle.pf_par.specs.Answers.{point_fields}
 use Rattle.pf_text.specs.Spelling.{rest_of_line}
 use Rattle.pf_text.proofs.SpellingLemmas.{line_is}
 use Rattle.std.proofs.lemmas.Result.{err_from_is_err_and}

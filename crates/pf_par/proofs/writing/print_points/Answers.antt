@@ -1,7 +1,7 @@
 use Rattle.std.proofs.Common.{◌≡◌, get_or, drop, arith}
 use Rattle.std.proofs.lemmas.Result.{err_from_is_err_and}
 use Rattle.pf_io.proofs.PrintingLemmas.{adds_then, adds_stopped}
-use Rattle.pf_text.specs.Answers.{segments_text}
+use Rattle.pf_par.specs.Answers.{segments_text}
 use Rattle.pf_par.proofs.WritingLemmas.{points_text_is}
 use Rattle.pf_par.proofs.writing.print_points.Goals as goal
 

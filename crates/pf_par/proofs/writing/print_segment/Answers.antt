@@ -2,7 +2,7 @@ use Rattle.std.proofs.Common.{◌∷◌}
 use Rattle.std.specs.Prelude.{codes}
 use Rattle.std.specs.Fmt.{decimal}
 use Rattle.pf_text.specs.Spelling.{line}
-use Rattle.pf_text.specs.Answers.{point_fields}
+use Rattle.pf_par.specs.Answers.{point_fields}
 use Rattle.std.proofs.lemmas.Result.{err_from_is_err_and}
 use Rattle.pf_io.proofs.PrintingLemmas.{adds_then, adds_stopped}
 use Rattle.pf_par.proofs.writing.print_segment.Goals as goal

@@ -1,6 +1,6 @@
 use Rattle.std.proofs.Common.{◌≡◌, ◌+◌, ◌<◌, length, get_or, ap, arith}
 use Rattle.std.proofs.lemmas.Result.{err_from_is_err_and}
-use Rattle.pf_text.proofs.AnswersLemmas.{segments_text_at}
+use Rattle.pf_par.proofs.AnswersLemmas.{segments_text_at}
 use Rattle.pf_par.proofs.WritingLemmas.{segments_text-end}
 use Rattle.pf_io.proofs.PrintedLemmas.{printed_begin, printed_more, printed_stopped, printed_end}
 use Rattle.pf_par.proofs.writing.print_segments.Goals as goal

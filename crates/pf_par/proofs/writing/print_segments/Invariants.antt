@@ -1,5 +1,5 @@
 use Rattle.std.proofs.Common.{◌+◌, drop}
-use Rattle.pf_text.specs.Answers.{segments_text}
+use Rattle.pf_par.specs.Answers.{segments_text}
 use Rattle.pf_io.proofs.PrintedLemmas.{HasPrinted}
 use Rattle.pf_par.proofs.writing.print_segments.Given as goal
 

@@ -2,7 +2,7 @@ use Rattle.std.proofs.Common.{◌≡◌, ◌-◌, ◌∷◌, [], length, ap, ari
 use Rattle.std.specs.Fmt.{decimal}
 use Rattle.std.specs.Prelude.{codes}
 use Rattle.pf_text.specs.Spelling.{line}
-use Rattle.pf_text.specs.Answers.{points_text, flows_text, curve_text}
+use Rattle.pf_par.specs.Answers.{points_text, flows_text, curve_text}
 use Rattle.std.proofs.lemmas.Result.{err_from_is_err_and}
 use Rattle.pf_io.proofs.PrintingLemmas.{adds_then, adds_stopped}
 use Rattle.pf_par.proofs.writing.write_curve.Goals as goal

@@ -1,5 +1,5 @@
 use Rattle.std.proofs.Common.{refl}
-use Rattle.pf_text.specs.Answers.{verdict_text}
+use Rattle.pf_text.specs.Verdict.{verdict_text}
 use Rattle.pf_top.specs.Task.{check}
 use Rattle.pf_top.proofs.AnsweringLemmas.{refused_text, accepted_behind}
 use Rattle.pf_top.proofs.RunningLemmas.{end_refused, end_checked, end_write_fault}

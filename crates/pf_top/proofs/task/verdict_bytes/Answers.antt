@@ -1,5 +1,5 @@
 use Rattle.std.proofs.Common.{refl}
-use Rattle.pf_text.specs.Answers.{verdict_text}
+use Rattle.pf_text.specs.Verdict.{verdict_text}
 use Rattle.pf_top.proofs.task.verdict_bytes.Goals as goal
 
 pub returns-then-holds : goal.returns-then-holds

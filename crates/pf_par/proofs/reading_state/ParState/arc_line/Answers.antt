@@ -1,7 +1,7 @@
 use Rattle.std.proofs.Common.{List, to_z, of_z, w64, Some, None, Ok, Err, refl, sym, ap, ◌∙◌, arith}
 use Rattle.std.proofs.lemmas.Int.{ints}
 use Rattle.pf_model.specs.declared.AffineArc.{AffineArc}
-use Rattle.pf_text.specs.Par.{node_index}
+use Rattle.pf_par.specs.Text.{node_index}
 use Rattle.pf_par.specs.ParState.{state_of}
 use Rattle.pf_lines.proofs.RangedNumbers.{back}
 use Rattle.pf_par.proofs.LineNumbers.{numbers_of_arc}

@@ -1,7 +1,7 @@
 use Rattle.std.proofs.Common.{Some, None, Err, sym, ap, ◌∙◌, arith}
 use Rattle.std.specs.Prelude.{pos}
 use Rattle.std.proofs.lemmas.Int.{ints}
-use Rattle.pf_text.specs.Par.{node_index}
+use Rattle.pf_par.specs.Text.{node_index}
 use Rattle.pf_text.specs.Numbers.{whole_of}
 use Rattle.pf_lines.proofs.ValueLemmas.{in_range}
 use Rattle.pf_par.specs.ParState.{state_of}

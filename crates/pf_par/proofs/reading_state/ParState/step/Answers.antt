@@ -1,6 +1,6 @@
 use Rattle.std.proofs.Common.{Err, sym, ap, ◌∙◌}
 use Rattle.pf_text.specs.declared.TextBad.TheVariants.{Syntax}
-use Rattle.pf_text.specs.Par.{par}
+use Rattle.pf_par.specs.Text.{par}
 use Rattle.pf_text.proofs.KindsLemmas.{step_syntax}
 use Rattle.pf_par.specs.ParState.{state_of}
 use Rattle.pf_par.proofs.reading_state.ParState.step.Goals as goal

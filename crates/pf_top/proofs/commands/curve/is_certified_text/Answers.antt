@@ -3,9 +3,9 @@ use Rattle.std.specs.Prelude.{◌↔◌, IfOk}
 use Rattle.pf_model.specs.Network.{Network}
 use Rattle.pf_model.specs.Curve.{CertifiesCurve}
 use Rattle.pf_model.specs.Answer.{Curve, IsCurveShape}
-use Rattle.pf_text.specs.Answers.{curve_text}
-use Rattle.pf_text.specs.Right.{IsCertifiedCurve}
-use Rattle.pf_text.proofs.RightLemmas.{certified_text}
+use Rattle.pf_par.specs.Answers.{curve_text}
+use Rattle.pf_par.specs.Right.{IsCertifiedCurve}
+use Rattle.pf_par.proofs.RightLemmas.{certified_text}
 use Rattle.pf_top.proofs.commands.curve.is_certified_text.Goals as goal
 
 verdict : {E : Type 0} (net : Network) (text : List ℕ) (whole : Curve) (r : Result Bool E) → IsCurveShape net whole → text ≡ curve_text net whole

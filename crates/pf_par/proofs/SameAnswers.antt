@@ -10,7 +10,7 @@ use Rattle.pf_model.specs.Fraction.{Fraction}
 use Rattle.pf_model.specs.Network.{Network, IsNetworkCut}
 use Rattle.pf_model.specs.Answer.{Point, Row, IsWithinSize, IsFractionShape, IsFlowShape, IsPointShape, IsRowShape}
 use Rattle.pf_text.specs.Spelling.{line}
-use Rattle.pf_text.specs.Answers.{point_fields, cut_fields, point_text, rows_text, sweep_text, verdict_text}
+use Rattle.pf_par.specs.Answers.{point_fields, cut_fields, point_text, rows_text, sweep_text}
 use Rattle.pf_text.proofs.NumbersLemmas.{one_number}
 use Rattle.pf_text.proofs.TextLines.{ArePlain, lines_text, lines_text-append, same_lines, decimal_plain, signed_plain, numbers_plain, side_plain, same_side, same_decimal}
 
@@ -109,15 +109,6 @@ same_point net a b sa sb e =
     let side = same_side a.side b.side (ap (field_at 2 3) lines) in
     let flow = same_flow net a.flow b.flow sa.flow sb.flow (ap (λ (ls : List (List (List ℕ))). drop 1 (get_or ls 3 [])) lines) in
     point_of_parts a.at b.at a.side b.side a.flow b.flow at side flow
-
--- ---- a verdict
-
-pub same_verdict : (a b : Bool) → verdict_text a ≡ verdict_text b → a ≡ b
-unfolding verdict_text
-same_verdict true true e = refl
-same_verdict false false e = refl
-same_verdict true false e = absurd (let byte = ap (λ (t : List ℕ). get_or t 8 0) e in omega (arith, byte))
-same_verdict false true e = absurd (let byte = ap (λ (t : List ℕ). get_or t 8 0) e in omega (arith, byte))
 
 -- ---- rows of a sweep
 

@@ -11,9 +11,10 @@ use Rattle.pf_model.specs.Network.{Network, IsMonotone, capacity_at, keeps_slope
 use Rattle.pf_model.proofs.Lowest.{below_test, lowest_is}
 use Rattle.pf_text.specs.declared.RuleKind.{RuleKind}
 use Rattle.pf_text.specs.Lines.{Line}
-use Rattle.pf_text.specs.Kinds.{State, Accepted, problem_of_lines}
-use Rattle.pf_text.specs.Par.{ParameterInterval, Given, par, par_header, billion, node_count, arc_count, node_index, broken_if, is_given, fraction, interval_form, interval_rules, source_form, source_rules, sink_form, sink_rules, arc_form, arc_rules, arc_rules_by, network_by}
-use Rattle.pf_text.specs.Laws.{IsTextFraction, IsTextArc, IsTextNetwork, AcceptedIsMonotone, AcceptedIsTextNetwork}
+use Rattle.pf_text.specs.Kinds.{State, Accepted, problem_of_lines, broken_if}
+use Rattle.pf_par.specs.Text.{ParameterInterval, Given, par, par_header, node_count, arc_count, node_index, is_given, fraction, interval_form, interval_rules, source_form, source_rules, sink_form, sink_rules, arc_form, arc_rules, arc_rules_by, network_by}
+use Rattle.pf_text.specs.Numbers.{billion}
+use Rattle.pf_par.specs.Laws.{IsTextFraction, IsTextArc, IsTextNetwork, AcceptedIsMonotone, AcceptedIsTextNetwork}
 use Rattle.pf_text.proofs.KindsLaw.{Fits, Keeps, IsInvariant, lines_claims, problem_claims}
 
 -- ---- what was given

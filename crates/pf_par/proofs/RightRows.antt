@@ -17,10 +17,12 @@ use Rattle.pf_model.proofs.CurveTest.{certified_by_tests, reach_from_test}
 use Rattle.pf_model.proofs.Duality.{smallest_from_reach}
 use Rattle.pf_model.proofs.FlowTest.{flow_from_test}
 use Rattle.pf_model.proofs.Lowest.{lowest_is}
-use Rattle.pf_text.specs.Answers.{point_text, curve_text, sweep_text, verdict_text}
-use Rattle.pf_text.specs.Right.{sweep_parameter, row_at, IsRightCurve, IsRightRow, IsRightSweep, IsRightCheck, IsRightPoint}
-use Rattle.pf_text.proofs.ParLaw.{accepted_is_monotone}
-use Rattle.pf_text.proofs.Rows.{text, two_lines, two, two_is_read}
+use Rattle.pf_par.specs.Answers.{point_text, curve_text, sweep_text}
+use Rattle.pf_text.specs.Verdict.{verdict_text}
+use Rattle.pf_par.specs.Right.{sweep_parameter, row_at, IsRightCurve, IsRightRow, IsRightSweep, IsRightCheck, IsRightPoint}
+use Rattle.pf_par.proofs.ParLaw.{accepted_is_monotone}
+use Rattle.pf_text.proofs.Rows.{text}
+use Rattle.pf_par.proofs.Rows.{two_lines, two, two_is_read}
 
 two_is_monotone : IsMonotone two
 two_is_monotone = accepted_is_monotone (text two_lines) (record { problem = two; rest = []; line = 7 }) two_is_read

@@ -5,7 +5,8 @@ use Rattle.pf_model.specs.Cut.{IsLeastValue, IsLeastSize}
 use Rattle.pf_model.specs.Network.{Network, network_at}
 use Rattle.pf_model.specs.Curve.{IsPoint, IsCurve, CertifiesCurve}
 use Rattle.pf_model.specs.Answer.{Point, Curve, Row, IsPointShape, IsCurveShape, IsRowShape}
-use Rattle.pf_text.specs.Answers.{point_text, curve_text, sweep_text, verdict_text}
+use Rattle.pf_par.specs.Answers.{point_text, curve_text, sweep_text}
+use Rattle.pf_text.specs.Verdict.{IsRightVerdict}
 
 -- the parameter lies outside the network's interval
 abbrev pub is_outside : Fraction → Network → Bool
@@ -55,12 +56,6 @@ pub record IsRightSweep (k : ℕ) (net : Network) (text : List ℕ) : Type 0 whe
   pub count : length rows ≡ k + 1
   pub each : (j : ℕ) → j < length rows → IsRightRow net (sweep_parameter net k j) (row_at net rows j)
   pub text_is : text ≡ sweep_text rows
-
--- a claim, and a text that says `yes` exactly where the claim holds and `no` elsewhere
-pub record IsRightVerdict (claim : Type 0) (text : List ℕ) : Type 0 where
-  pub verdict : Bool
-  pub exact : (verdict ≡ true) ↔ claim
-  pub text_is : text ≡ verdict_text verdict
 
 -- the text is that of a curve of the right shape whose certificate holds
 pub record IsCertifiedCurve (net : Network) (text : List ℕ) : Type 0 where

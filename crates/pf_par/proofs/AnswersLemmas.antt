@@ -7,7 +7,7 @@ use Rattle.pf_model.specs.Fraction.{Fraction}
 use Rattle.pf_model.specs.Network.{Network}
 use Rattle.pf_model.specs.Answer.{Row}
 use Rattle.pf_text.specs.Spelling.{line}
-use Rattle.pf_text.specs.Answers.{point_fields, cut_fields, segments_text, flows_text, rows_text}
+use Rattle.pf_par.specs.Answers.{point_fields, cut_fields, segments_text, flows_text, rows_text}
 
 next : {X : Type 0} (xs : List X) (i : ℕ) (other : X) → i < length xs → drop i xs ≡ get_or xs i other ∷ drop (i + 1) xs
 next xs i other low = rw add-one (drop-cons xs i other low)

@@ -1,13 +1,14 @@
 -- Verdicts on texts of curves.
-use Rattle.std.proofs.Common.{◌≡◌, ℕ, Bool, true, false, List, refl, sym, ap, subst, ◌∙◌}
+use Rattle.std.proofs.Common.{◌≡◌, ℕ, Bool, true, false, List, sym, subst, ◌∙◌}
 use Rattle.std.specs.Prelude.{◌↔◌}
 use Rattle.pf_model.specs.Network.{Network, IsMonotone}
 use Rattle.pf_model.specs.Curve.{CertifiesCurve}
 use Rattle.pf_model.specs.Answer.{Curve, IsCurveShape}
 use Rattle.pf_model.proofs.Certificate.{certified_is_curve}
-use Rattle.pf_text.specs.Answers.{curve_text, verdict_text}
-use Rattle.pf_text.specs.Right.{IsRightCurve, IsCertifiedCurve, IsRightCheck}
-use Rattle.pf_text.proofs.SameCurves.{same_curve}
+use Rattle.pf_text.proofs.VerdictLemmas.{one_right_text}
+use Rattle.pf_par.specs.Answers.{curve_text}
+use Rattle.pf_par.specs.Right.{IsRightCurve, IsCertifiedCurve, IsRightCheck}
+use Rattle.pf_par.proofs.SameCurves.{same_curve}
 
 abbrev Holds : Network → Curve → Type 0
 Holds net curve = CertifiesCurve net curve.points curve.cuts curve.flows
@@ -24,15 +25,9 @@ certified_text net text curve holds shape text_is exact = (
 pub no_text : (net : Network) (text : List ℕ) → ((curve : Curve) → IsCurveShape net curve → text ≡ curve_text net curve → ⊥) → (false ≡ true) ↔ IsCertifiedCurve net text
 no_text net text none = (λ same. absurd cc, λ certified. absurd (none certified.curve certified.shape certified.text_is))
 
-equal_tests : (a b : Bool) → (a ≡ true → b ≡ true) → (b ≡ true → a ≡ true) → a ≡ b
-equal_tests true b f g = sym (f refl)
-equal_tests false true f g = g refl
-equal_tests false false f g = refl
-
 -- there is one right verdict
 pub one_verdict : (net : Network) (rest text other : List ℕ) → IsRightCheck net rest text → IsRightCheck net rest other → text ≡ other
-one_verdict net rest text other a b =
-    a.text_is ∙ ap verdict_text (equal_tests a.verdict b.verdict (λ t. b.exact.1 (a.exact.0 t)) (λ t. a.exact.1 (b.exact.0 t))) ∙ sym b.text_is
+one_verdict net rest text other a b = one_right_text text other a b
 
 -- the certificate is all that a right answer to `curve` has
 pub certified_is_right : (net : Network) (text : List ℕ) → IsMonotone net → IsCertifiedCurve net text ↔ IsRightCurve net text

@@ -1,5 +1,0 @@
-use Rattle.pf_text.proofs.RightLemmas.{certified_is_right}
-use Rattle.pf_text.proofs.laws.certified_texts_are_right_answers.Goals as goal
-
-pub returns : goal.returns
-returns c = certified_is_right

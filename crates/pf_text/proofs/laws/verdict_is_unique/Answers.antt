@@ -1,5 +1,0 @@
-use Rattle.pf_text.proofs.RightLemmas.{one_verdict}
-use Rattle.pf_text.proofs.laws.verdict_is_unique.Goals as goal
-
-pub returns : goal.returns
-returns c = one_verdict
