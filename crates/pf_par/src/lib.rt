@@ -4,9 +4,11 @@
 //! Proved: `read_par` gives exactly the network of the definition, or exactly its first refusal,
 //! and leaves the reader of lines behind the line that decided. `write_at` and `write_curve` print
 //! exactly the text of the definition, fail only where the sink failed, and take no memory.
-//! `read_curve` gives the one curve of the right shape whose text the bytes are, or that there is none.
+//! `read_curve` gives the one curve of the right shape whose text the bytes are, or that there is none, and
+//! `is_certified_text` whether that curve is certified.
 #![tactic(auto)]
 
+mod checking;
 mod flow_lines;
 pub mod laws;
 mod outline;
@@ -24,6 +26,7 @@ mod writing;
 #[cfg(test)]
 mod writing_tests;
 
+pub use checking::is_certified_text;
 pub use pf_lines::{AnswerBad, ReadBad};
 pub use reading::read_par;
 pub use reading_curve::read_curve;

@@ -6,7 +6,7 @@ use Rattle.pf_model.specs.Answer.{Curve, IsCurveShape}
 use Rattle.pf_par.specs.Answers.{curve_text}
 use Rattle.pf_par.specs.Right.{IsCertifiedCurve}
 use Rattle.pf_par.proofs.RightLemmas.{certified_text}
-use Rattle.pf_top.proofs.commands.curve.is_certified_text.Goals as goal
+use Rattle.pf_par.proofs.checking.is_certified_text.Goals as goal
 
 verdict : {E : Type 0} (net : Network) (text : List ℕ) (whole : Curve) (r : Result Bool E) → IsCurveShape net whole → text ≡ curve_text net whole
     → IfOk r (λ holds. (holds ≡ true) ↔ CertifiesCurve net whole.points whole.cuts whole.flows) → IfOk r (λ holds. (holds ≡ true) ↔ IsCertifiedCurve net text)
