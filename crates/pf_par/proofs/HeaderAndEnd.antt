@@ -10,10 +10,10 @@ use Rattle.pf_text.specs.declared.TextBad.{TextBad}
 use Rattle.pf_text.specs.declared.TextBad.TheVariants.{Syntax, Range, Count, WrongKind}
 use Rattle.pf_text.specs.Lines.{Line}
 use Rattle.pf_text.specs.Numbers.{whole_of}
-use Rattle.pf_text.specs.Kinds.{State, word, numbers_by, are_in_range, is_wrong_kind, and_then, refuse_if, rule_at, state_of_header, header, end_line, problem_of_lines}
+use Rattle.pf_text.specs.Kinds.{State, word, numbers_by, are_in_range, is_wrong_kind, and_then, refuse_if, rule_at, state_of_header, header, end_line}
 use Rattle.pf_par.specs.Text.{Given, par, par_header, node_count, arc_count, network_by}
 use Rattle.pf_par.proofs.ParLaw.{accepted_lines_are_good}
-use Rattle.pf_lines.specs.Places.{Place, lines_left}
+use Rattle.pf_lines.specs.Deciding.{IsDecidedBy}
 use Rattle.pf_text.proofs.KindsLemmas.{header_wrong_kind, header_syntax, end_count}
 use Rattle.pf_lines.specs.declared.numbers.Bad.{Bad}
 use Rattle.pf_lines.specs.declared.numbers.Bad.TheVariants.{NotNumber, OutOfRange}
@@ -133,5 +133,5 @@ pub good_end : (state : State Given) (line : Line) → arc_count state.header_nu
 good_end state line all good = λ net e.
     good (record { problem = net; rest = line.rest; line = line.number }) (end_is state line line.number refl all ∙ rw e refl)
 
-pub good_end_line : (start : Place) (state : State Given) (line : Line) → problem_of_lines par (lines_left start) ≡ end_line par state line → IsGoodEndLine state line
-good_end_line start state line same = λ read e. accepted_lines_are_good (lines_left start) read (same ∙ e)
+pub good_end_line : (state : State Given) (line : Line) → IsDecidedBy par state line → IsGoodEndLine state line
+good_end_line state line decided = λ read e. accepted_lines_are_good decided.lines read (decided.judged ∙ e)

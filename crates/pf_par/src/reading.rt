@@ -6,7 +6,7 @@ ghost use Rattle.pf_lines.specs.Places.{lines_left};
 ghost use Rattle.pf_lines.specs.Reading.{Agrees, IsBehindRefusal, HasPassed};
 
 use crate::reading_state::ParState;
-use pf_lines::{Lines, ReadBad, TextBad, is_end};
+use pf_lines::{Lines, ReadBad, read_problem};
 use pf_net::Net;
 use std::alloc::Global;
 
@@ -21,15 +21,5 @@ pub fn read_par(alloc: Global, lines: &mut Lines<'_>) -> Result<Net, ReadBad>
     ensures refused { IfErr result (λ bad. IsBehindRefusal bad lines.new) }
     ensures passed { HasPassed lines.old lines.new }
 {
-    let Some(first) = lines.next() else {
-        return Err(ReadBad::Text(TextBad::NoEnd));
-    };
-    let mut state = ParState::begin(alloc, &first)?;
-    'lines: while let Some(line) = lines.next() {
-        if is_end(&line) {
-            return state.end(alloc, &line);
-        }
-        state.step(&line)?;
-    }
-    Err(ReadBad::Text(TextBad::NoEnd))
+    read_problem::<ParState>(alloc, lines)
 }

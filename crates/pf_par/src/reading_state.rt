@@ -1,16 +1,15 @@
 // What the lines of a text have given so far.
 ghost use Rattle.std.specs.Prelude.{◌≡◌, ◌∷◌, [], slice_index_or};
-ghost use Rattle.pf_text.specs.Kinds.{step, end_line, header};
+ghost use Rattle.pf_text.specs.Kinds.{step};
 ghost use Rattle.pf_par.specs.Text.{par};
 ghost use Rattle.pf_par.specs.Forms.{HasForm};
 ghost use Rattle.pf_par.specs.ParState.{state_of};
 ghost use Rattle.pf_lines.specs.Reading.{Agrees};
-ghost use Rattle.pf_par.specs.Rules.{IsGoodEndLine};
 
 use crate::reading_fields::{arc_numbers, index_of, interval_numbers, node};
 use crate::reading_forms::{LineForm, form_of, is_header};
 use crate::reading_rules::{Interval, against_arc, against_interval, against_node, network};
-use pf_lines::{ReadBad, TextBad, TextLine, both, field, is_wrong_kind, refused, whole};
+use pf_lines::{Gathering, ReadBad, TextBad, TextLine, both, field, is_wrong_kind, refused, whole};
 use pf_model::AffineArc;
 use pf_net::Net;
 use std::alloc::Global;
@@ -27,32 +26,6 @@ pub struct ParState {
 }
 
 impl ParState {
-    /// What the first line begins, if it is a header.
-    pub fn begin(alloc: Global, line: &TextLine<'_>) -> Result<ParState, ReadBad>
-        ensures { Agrees (header par line.now) state_of result }
-    {
-        let number = line.number();
-        if is_wrong_kind(line, b"par") {
-            return Err(ReadBad::Text(TextBad::WrongKind(number)));
-        }
-        if !is_header(line) {
-            return Err(ReadBad::Text(TextBad::Syntax(number)));
-        }
-        let nodes = whole(field(line, 2), 2, 1000);
-        let arcs = whole(field(line, 3), 0, 10000);
-        match both(nodes, arcs) {
-            Ok((nodes, arcs)) => Ok(ParState {
-                nodes: nodes as u32,
-                arc_count: arcs as usize,
-                interval: None,
-                source: None,
-                sink: None,
-                arcs: Vec::new(alloc),
-            }),
-            Err(bad) => Err(ReadBad::Text(refused(number, bad))),
-        }
-    }
-
     // `i LP LQ HP HQ`
     fn interval_line(&mut self, line: &TextLine<'_>) -> Result<(), ReadBad>
         requires { HasForm LineForm.Interval line.now.fields }
@@ -126,11 +99,48 @@ impl ParState {
         self.arcs.push(arc)?;
         Ok(())
     }
+}
 
-    /// Takes a line between the header and the line `end`.
-    pub fn step(&mut self, line: &TextLine<'_>) -> Result<(), ReadBad>
-        ensures { Agrees (step par (state_of self.old) line.now) (λ _. state_of self.new) result }
-    {
+impl Gathering for ParState {
+    ghost use Rattle.pf_model.specs.Network.{Network};
+    ghost use Rattle.pf_par.specs.Text.{Given};
+
+    type Problem = Net;
+
+    ghost Gathered = { Given };
+
+    ghost Value = { Network };
+
+    ghost kind = { par };
+
+    ghost state = { state_of };
+
+    ghost value_of = { λ net. net };
+
+    fn begin(alloc: Global, line: &TextLine<'_>) -> Result<ParState, ReadBad> {
+        let number = line.number();
+        if is_wrong_kind(line, b"par") {
+            return Err(ReadBad::Text(TextBad::WrongKind(number)));
+        }
+        if !is_header(line) {
+            return Err(ReadBad::Text(TextBad::Syntax(number)));
+        }
+        let nodes = whole(field(line, 2), 2, 1000);
+        let arcs = whole(field(line, 3), 0, 10000);
+        match both(nodes, arcs) {
+            Ok((nodes, arcs)) => Ok(ParState {
+                nodes: nodes as u32,
+                arc_count: arcs as usize,
+                interval: None,
+                source: None,
+                sink: None,
+                arcs: Vec::new(alloc),
+            }),
+            Err(bad) => Err(ReadBad::Text(refused(number, bad))),
+        }
+    }
+
+    fn step(&mut self, line: &TextLine<'_>) -> Result<(), ReadBad> {
         match form_of(line) {
             None => Err(ReadBad::Text(TextBad::Syntax(line.number()))),
             Some(LineForm::Interval) => self.interval_line(line),
@@ -140,12 +150,7 @@ impl ParState {
         }
     }
 
-    /// The network, where this line is `end`.
-    pub fn end(&self, alloc: Global, line: &TextLine<'_>) -> Result<Net, ReadBad>
-        requires { IsGoodEndLine (state_of self.now) line.now }
-        ensures { Agrees (end_line par (state_of self.now) line.now)
-            (λ net. record { problem = net; rest = line.now.rest; line = line.now.number }) result }
-    {
+    fn end(&self, alloc: Global, line: &TextLine<'_>) -> Result<Net, ReadBad> {
         let number = line.number();
         if self.arcs.len() < self.arc_count {
             return Err(ReadBad::Text(TextBad::Count(number)));

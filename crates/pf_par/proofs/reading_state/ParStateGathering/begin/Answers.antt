@@ -1,6 +1,6 @@
 use Rattle.std.proofs.Common.{Err, sym, ap, ◌∙◌}
 use Rattle.pf_par.proofs.HeaderAndEnd.{wrong_kind, no_header, header_refused, header_state}
-use Rattle.pf_par.proofs.reading_state.ParState.begin.Goals as goal
+use Rattle.pf_par.proofs.reading_state.ParStateGathering.begin.Goals as goal
 
 pub returns-then-is_wrong_kind : goal.returns-then-is_wrong_kind
 returns-then-is_wrong_kind c = wrong_kind c.args.line.now c.number-number.result c.number-number.ensures c.if-is_wrong_kind.ensures
