@@ -1,6 +1,6 @@
 // Pieces of lines: numbers, sides and rows of numbers. A line is printed as its first field, and then the rest: fields with
 // a space in front, and the line feed. No call takes memory.
-ghost use Rattle.std.specs.Prelude.{◌≡◌, ◌++◌, [], ◌∷◌, map, false};
+ghost use Rattle.std.specs.Prelude.{◌≡◌, [], ◌∷◌, map, false};
 ghost use Rattle.std.specs.Fmt.{decimal, signed_decimal};
 ghost use Rattle.pf_text.specs.Spelling.{side_text, spaced, rest_of_line, row_line, numbered_line};
 ghost use Rattle.pf_io.specs.Printing.{Adds, is_spent};

@@ -1,6 +1,6 @@
 -- The numbers of fields, one after another.
 use Rattle.std.proofs.Common.{◌≡◌, ℕ, Bool, true, false, cond, ◌&&◌, List, [], ◌∷◌, Option, Some, None, Result, Ok, Err, refl, sym, ap, ◌∙◌, ◌≤◌, ◌^◌, arith, to_z, of_z, w64}
-use Rattle.std.specs.Prelude.{ℤ, pos, neg_ℤ, ◌≤ℤ◌, nat_abs, int_le}
+use Rattle.std.specs.Prelude.{ℤ, nat_abs, int_le}
 use Rattle.std.proofs.lemmas.Int.{ints}
 use Rattle.pf_text.specs.Numbers.{whole_of}
 use Rattle.pf_text.specs.Kinds.{FieldPattern, number, with_number, numbers_by, are_in_range}

@@ -1,6 +1,7 @@
 // Why readers refuse.
 ghost use Rattle.std.specs.Prelude.{◌≡◌};
 
+use pf_frame::NoMemory;
 use pf_text::TextBad;
 use std::alloc::{AllocError, AllocFailed};
 use thiserror::Error;
@@ -14,6 +15,16 @@ pub enum ReadBad {
     /// Memory was not found.
     #[error("no memory")]
     NoMemory,
+}
+
+impl From<NoMemory> for ReadBad {
+    ghost use Rattle.pf_lines.specs.declared.errors.ReadBad.TheVariants.{NoMemory};
+
+    ghost from_gives = { λ _ bad. bad ≡ NoMemory };
+
+    fn from(_error: NoMemory) -> ReadBad {
+        ReadBad::NoMemory
+    }
 }
 
 impl From<AllocError> for ReadBad {
@@ -45,6 +56,16 @@ pub enum AnswerBad {
     /// Memory was not found.
     #[error("no memory")]
     NoMemory,
+}
+
+impl From<NoMemory> for AnswerBad {
+    ghost use Rattle.pf_lines.specs.declared.errors.AnswerBad.TheVariants.{NoMemory};
+
+    ghost from_gives = { λ _ bad. bad ≡ NoMemory };
+
+    fn from(_error: NoMemory) -> AnswerBad {
+        AnswerBad::NoMemory
+    }
 }
 
 impl From<AllocError> for AnswerBad {

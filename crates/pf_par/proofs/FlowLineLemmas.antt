@@ -6,7 +6,7 @@ use Rattle.std.proofs.lemmas.List.{append-nil, length-append}
 use Rattle.std.proofs.lemmas.List.Elements.{All-nil, All-push, All-same}
 use Rattle.pf_model.specs.Answer.{IsWithinSize}
 use Rattle.pf_lines.specs.declared.errors.AnswerBad.{AnswerBad}
-use Rattle.pf_lines.specs.declared.errors.AnswerBad.TheVariants.{NotText, NoMemory}
+use Rattle.pf_lines.specs.declared.errors.AnswerBad.TheVariants.{NoMemory}
 use Rattle.pf_par.specs.Answers.{flows_text}
 use Rattle.pf_lines.specs.Taking.{Takes, IsBetween, IsRow}
 use Rattle.pf_lines.proofs.RowsTaken.{only_memory, of_all, IsFront, front_is_all}

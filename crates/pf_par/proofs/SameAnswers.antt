@@ -1,6 +1,6 @@
 -- Answers of the right shape with equal texts are equal.
 use Rattle.std.proofs.Common.{◌≡◌, ℕ, ◌+◌, ◌-◌, ◌<◌, ◌≤◌, ◌^◌, List, [], ◌∷◌, ◌++◌, length, get_or, drop, map, refl, sym, ap, ◌∙◌, append_assoc, arith}
-use Rattle.std.specs.Prelude.{◌≢◌, ℤ, Bool, true, false, nat_abs, All, codes}
+use Rattle.std.specs.Prelude.{◌≢◌, ℤ, Bool, nat_abs, All, codes}
 use Rattle.std.specs.List.{AllByRecursion}
 use Rattle.std.specs.Fmt.{decimal, signed_decimal}
 use Rattle.std.proofs.lemmas.Int.{ints}

@@ -1,15 +1,14 @@
 -- The lines of points, cuts and flows, printed piece by piece.
-use Rattle.std.proofs.Common.{◌≡◌, ℕ, ◌+◌, ◌<◌, List, [], ◌∷◌, ◌++◌, length, take, drop, get_or, map, refl, sym, ap, ◌∙◌, append_assoc, arith}
-use Rattle.std.proofs.lemmas.List.{append-nil, take_more, take-append-drop, drop_all, map-append, length-map}
+use Rattle.std.proofs.Common.{◌≡◌, ℕ, ◌+◌, ◌<◌, List, [], ◌∷◌, ◌++◌, length, drop, get_or, map, refl, sym, ◌∙◌, arith}
+use Rattle.std.proofs.lemmas.List.{drop_all, length-map}
 use Rattle.std.specs.Prelude.{ℤ, pos, Bool, codes}
-use Rattle.std.specs.Fmt.{decimal, signed_decimal}
-use Rattle.std.specs.List.{join_with_byte}
+use Rattle.std.specs.Fmt.{decimal}
 use Rattle.pf_model.specs.Fraction.{Fraction}
 use Rattle.pf_model.specs.Network.{Network, ends_of}
 use Rattle.pf_model.specs.Answer.{IsFlowShape}
 use Rattle.pf_frame.specs.Numbers.{IsSized}
 use Rattle.pf_net.specs.Limits.{graph_of}
-use Rattle.pf_text.specs.Spelling.{line, side_text, spaced, rest_of_line, numbers_text}
+use Rattle.pf_text.specs.Spelling.{line}
 use Rattle.pf_par.specs.Answers.{point_fields, segments_text, points_text}
 
 -- a flow of the right shape has a number of the right size for each arc

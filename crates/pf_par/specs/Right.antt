@@ -1,5 +1,5 @@
 -- What is refused of networks, and which texts are right answers.
-use Rattle.std.specs.Prelude.{◌≡◌, ◌↔◌, ℕ, ◌+◌, ◌^◌, ◌<◌, Bool, true, ◌||◌, List, length, slice_index_or, pos, ◌+ℤ◌, ◌-ℤ◌, ◌*ℤ◌, int_lt}
+use Rattle.std.specs.Prelude.{◌≡◌, ℕ, ◌+◌, ◌^◌, ◌<◌, Bool, ◌||◌, List, length, slice_index_or, pos, ◌+ℤ◌, ◌-ℤ◌, ◌*ℤ◌, int_lt}
 use Rattle.pf_model.specs.Fraction.{Fraction, is_below, lowest}
 use Rattle.pf_model.specs.Cut.{IsLeastValue, IsLeastSize}
 use Rattle.pf_model.specs.Network.{Network, network_at}

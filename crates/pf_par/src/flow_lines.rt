@@ -1,10 +1,9 @@
 // The lines of flows of a curve's text.
-ghost use Rattle.std.specs.Prelude.{◌≡◌, ◌++◌, ◌∷◌, [], ℕ, ℤ, List, length, All, IfOk, Err, codes};
+ghost use Rattle.std.specs.Prelude.{◌≡◌, ◌++◌, ◌∷◌, [], ℕ, ℤ, List, length, All, IfOk, Err};
 ghost use Rattle.pf_model.specs.Answer.{IsFlowShape};
 ghost use Rattle.pf_lines.specs.declared.errors.AnswerBad.{AnswerBad};
 ghost use Rattle.pf_par.specs.Answers.{flows_text};
-ghost use Rattle.pf_lines.specs.Taking.{Stops, Takes};
-ghost use Rattle.pf_text.specs.Spelling.{numbers_text};
+ghost use Rattle.pf_lines.specs.Taking.{Takes};
 ghost use Rattle.pf_par.specs.FlowLines.{IsFlowRow, flow_line};
 
 use pf_frame::{FlowTable, Numbers};
@@ -37,10 +36,8 @@ fn add(flows: &mut FlowTable, flow: Numbers) -> Result<(), AnswerBad>
     ensures added { IfOk result (λ _. flows.new ≡ flows.old ++ flow ∷ []) }
     ensures memory { (bad : AnswerBad) → result ≡ Err bad → bad ≡ AnswerBad.NoMemory }
 {
-    match flows.push(flow) {
-        Ok(()) => Ok(()),
-        Err(_) => Err(AnswerBad::NoMemory),
-    }
+    flows.push(flow)?;
+    Ok(())
 }
 
 // So many lines of flows, numbered from 0.

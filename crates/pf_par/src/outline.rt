@@ -1,10 +1,9 @@
 // The lines of points and cuts of a curve's text.
-ghost use Rattle.std.specs.Prelude.{◌≡◌, ◌↔◌, ◌++◌, ◌+◌, ◌<◌, ◌≤◌, ◌^◌, ℕ, ℤ, Bool, List, [], ◌∷◌, length, codes, IsTrue, IfOk, IfErr, IfSome, IfNone};
+ghost use Rattle.std.specs.Prelude.{◌≡◌, ◌↔◌, ◌++◌, ◌+◌, ◌<◌, ◌≤◌, ◌^◌, ℕ, ℤ, Bool, List, [], ◌∷◌, length, codes, IsTrue, IfOk, IfErr};
 ghost use Rattle.std.specs.Fmt.{decimal, signed_decimal};
-ghost use Rattle.pf_model.specs.Fraction.{Fraction};
 ghost use Rattle.pf_model.specs.Network.{IsNetworkCut, cut_a, cut_b};
-ghost use Rattle.pf_model.specs.Answer.{IsFractionShape, IsWithinSize};
-ghost use Rattle.pf_text.specs.Spelling.{line, side_text, rest_of_line, fraction_text};
+ghost use Rattle.pf_model.specs.Answer.{IsWithinSize};
+ghost use Rattle.pf_text.specs.Spelling.{line, side_text, rest_of_line};
 ghost use Rattle.pf_par.specs.Answers.{cut_fields};
 ghost use Rattle.pf_par.specs.Outline.{IsOutlineShape, IsSegmentShape, IsValuedShape, cut_line, outline_text, point_line, points_outline, segment_text, value_fields};
 ghost use Rattle.pf_lines.specs.Taking.{IsExcused, Stops, Takes};
@@ -169,10 +168,8 @@ fn add_at(points: &mut Points, at: Rat) -> Result<(), AnswerBad>
     ensures added { IfOk result (λ _. points.new ≡ points.old ++ at ∷ []) }
     ensures excused { IfErr result IsExcused }
 {
-    match points.push(at) {
-        Ok(_) => Ok(()),
-        Err(_) => Err(AnswerBad::NoMemory),
-    }
+    points.push(at)?;
+    Ok(())
 }
 
 // Adds the side.
@@ -180,10 +177,8 @@ fn add_side(cuts: &mut Sides, side: Side) -> Result<(), AnswerBad>
     ensures added { IfOk result (λ _. cuts.new ≡ cuts.old ++ side ∷ []) }
     ensures excused { IfErr result IsExcused }
 {
-    match cuts.push(side) {
-        Ok(_) => Ok(()),
-        Err(_) => Err(AnswerBad::NoMemory),
-    }
+    cuts.push(side)?;
+    Ok(())
 }
 
 // Adds the value.
@@ -191,10 +186,8 @@ fn add_value(values: &mut Numbers, value: i128) -> Result<(), AnswerBad>
     ensures added { IfOk result (λ _. values.new ≡ values.old ++ value ∷ []) }
     ensures excused { IfErr result IsExcused }
 {
-    match values.push(value) {
-        Ok(_) => Ok(()),
-        Err(_) => Err(AnswerBad::NoMemory),
-    }
+    values.push(value)?;
+    Ok(())
 }
 
 // One point, and no cut.

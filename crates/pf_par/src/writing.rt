@@ -1,10 +1,10 @@
 // Writing of answers for networks.
-ghost use Rattle.std.specs.Prelude.{◌≡◌, ℕ, ◌<◌, ◌++◌, [], ◌∷◌, length, map, drop, false, codes};
-ghost use Rattle.std.specs.Fmt.{decimal, signed_decimal};
+ghost use Rattle.std.specs.Prelude.{◌≡◌, ◌<◌, ◌++◌, [], ◌∷◌, drop, false, codes};
+ghost use Rattle.std.specs.Fmt.{decimal};
 ghost use Rattle.pf_model.specs.Network.{IsNetworkCut};
 ghost use Rattle.pf_model.specs.Answer.{IsFlowShape, IsPointShape, IsCurveShape};
 ghost use Rattle.pf_io.specs.Printing.{Adds, is_spent};
-ghost use Rattle.pf_text.specs.Spelling.{line, side_text, spaced, rest_of_line};
+ghost use Rattle.pf_text.specs.Spelling.{line, rest_of_line};
 ghost use Rattle.pf_par.specs.Answers.{point_fields, cut_fields, point_text, segments_text, points_text, flows_text, curve_text};
 
 use pf_curve::{Curve, Point};

@@ -1,4 +1,4 @@
-use Rattle.std.proofs.Common.{◌∷◌, [], map}
+use Rattle.std.proofs.Common.{[], map}
 use Rattle.std.proofs.lemmas.Result.{err_from_is_err_and}
 use Rattle.pf_io.proofs.PrintingLemmas.{adds_then, adds_stopped}
 use Rattle.pf_text.specs.Spelling.{rest_of_line}
