@@ -10,7 +10,8 @@ ghost use Rattle.pf_par.specs.Answers.{point_fields, cut_fields, point_text, seg
 use pf_curve::{Curve, Point};
 use pf_frame::value;
 use pf_io::{
-    Failed, Printer, Sink, print_index, print_numbered_line, print_numbers, print_rest, print_rest_side, print_row,
+    Failed, Printer, Sink, print_index, print_numbered_line, print_numbers, print_rest,
+    print_rest_side, print_row,
 };
 use pf_net::Net;
 use pf_rat::Rat;
