@@ -1,7 +1,12 @@
 -- What holds of each two neighbours of a list, from the first two on.
-use Rattle.std.proofs.Common.{◌≡◌, ℕ, ◌+◌, ◌-◌, ◌<◌, ◌≤◌, List, length, get_or, Bool, arith, ap, sym, ◌∙◌, subst, inl, inr}
+use Rattle.std.proofs.Common.{◌≡◌, ℕ, ◌+◌, ◌-◌, ◌<◌, ◌≤◌, List, length, get_or, Bool, refl, arith, ap, sym, ◌∙◌, subst, inl, inr}
 use Rattle.std.specs.Prelude.{◌<ℤ◌, All}
-use Rattle.std.proofs.lemmas.Bool.{cases_lt}
+use Rattle.std.specs.declared.cmp.Ordering.{Ordering}
+use Rattle.std.specs.declared.cmp.Ordering.TheVariants.{Less, Equal, Greater}
+use Rattle.std.specs.Bool.{Decides}
+use Rattle.std.specs.Ordering.{MatchOrdering, is_lt, is_eq}
+use Rattle.std.proofs.lemmas.Bool.{cases_lt, false≢true}
+use Rattle.std.proofs.lemmas.Int.{ints}
 use Rattle.std.proofs.lemmas.List.{get_or_default}
 use Rattle.pf_model.specs.Fraction.{Fraction, IsBelow, IsEqual, IsParameter}
 use Rattle.pf_model.specs.Network.{Network, cut_b}
@@ -14,19 +19,46 @@ pairs_more P i low before here k less = elim (cases_lt k (i - 1)) [
   | inr last ↦ (let e : i - 1 ≡ k = omega arith in subst P e here)
 ]
 
+-- what the answer of `cmp` says of two fractions, as a test
+pub less_is : (o : Ordering) (x y : Fraction) → MatchOrdering o (IsBelow x y) (IsEqual x y) (IsBelow y x) → Decides (is_lt o) (IsBelow x y)
+less_is Less x y m = (λ e. m, λ h. refl)
+less_is Equal x y m = (λ e. absurd (false≢true e), λ h. absurd (omega (arith, ints, m, h)))
+less_is Greater x y m = (λ e. absurd (false≢true e), λ h. absurd (omega (arith, ints, m, h)))
+
+pub same_is : (o : Ordering) (x y : Fraction) → MatchOrdering o (IsBelow x y) (IsEqual x y) (IsBelow y x) → Decides (is_eq o) (IsEqual x y)
+same_is Less x y m = (λ e. absurd (false≢true e), λ h. absurd (omega (arith, ints, m, h)))
+same_is Equal x y m = (λ e. m, λ h. refl)
+same_is Greater x y m = (λ e. absurd (false≢true e), λ h. absurd (omega (arith, ints, m, h)))
+
+-- two parameters, the first below the second
+pub record IsPair (x y : Fraction) : Type 0 where
+  pub first : IsParameter x
+  pub second : IsParameter y
+  pub below : IsBelow x y
+
 -- of two fractions that stand side by side
 abbrev pub RisesAt : List Fraction → ℕ → Type 0
-RisesAt points k = (d : Fraction) → IsBelow (get_or points k d) (get_or points (k + 1) d)
+RisesAt points k = (d : Fraction) → IsPair (get_or points k d) (get_or points (k + 1) d)
 
 pub rises_here : (points : List Fraction) (i : ℕ) (x y : Fraction) → 1 ≤ i → i < length points → x ≡ get_or points (i - 1) x → y ≡ get_or points i y →
-    IsBelow x y → RisesAt points (i - 1)
+    IsPair x y → RisesAt points (i - 1)
 rises_here points i x y start low is_x is_y h d =
     let e : (i - 1) + 1 ≡ i = omega arith in
     let here : get_or points (i - 1) d ≡ x = get_or_default points (i - 1) d x (omega arith) ∙ sym is_x in
     let next : get_or points i d ≡ y = get_or_default points i d y low ∙ sym is_y in
-    let P : Fraction → Type 0 = λ a. IsBelow a (get_or points ((i - 1) + 1) d) in
-    let Q : Fraction → Type 0 = λ b. IsBelow x b in
+    let P : Fraction → Type 0 = λ a. IsPair a (get_or points ((i - 1) + 1) d) in
+    let Q : Fraction → Type 0 = λ b. IsPair x b in
     subst P (sym here) (subst Q (sym (ap (λ n. get_or points n d) e ∙ next)) h)
+
+-- where each is one of two such, all are parameters
+pub all_parameters : (points : List Fraction) → 2 ≤ length points → ((k : ℕ) → k + 1 < length points → RisesAt points k) → All IsParameter points
+all_parameters points two h = λ k d low. elim (cases_lt (k + 1) (length points)) [
+  | inl more ↦ (h k more d).first
+  | inr last ↦ (
+      let e : (k - 1) + 1 ≡ k = omega arith in
+      let P : ℕ → Type 0 = λ n. IsParameter (get_or points n d) in
+      subst P e (h (k - 1) (omega arith) d).second)
+]
 
 pub rises_told : (points : List Fraction) (i : ℕ) (x y : Fraction) → 1 ≤ i → i < length points → x ≡ get_or points (i - 1) x → y ≡ get_or points i y →
     Rise points → IsBelow x y

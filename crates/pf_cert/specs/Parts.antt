@@ -2,7 +2,7 @@
 use Rattle.std.specs.Prelude.{ℕ, ◌+◌, ◌<◌, ℤ, Bool, List, length, get_or}
 use Rattle.pf_model.specs.Fraction.{Fraction, IsBelow}
 use Rattle.pf_model.specs.Flow.{IsFlow}
-use Rattle.pf_model.specs.Graph.{Graph}
+use Rattle.pf_model.specs.Digraph.{Digraph}
 use Rattle.pf_model.specs.Residual.{IsReach}
 use Rattle.pf_model.specs.Network.{Network, IsNetworkCut, network_at}
 use Rattle.pf_model.specs.Curve.{Meets, point_at, cut_at, flow_at}
@@ -21,7 +21,7 @@ pub record AreFlows (net : Network) (points : List Fraction) (flows : List (List
   pub each : (j : ℕ) → j < length points → IsFlow (network_at net (point_at net points j)) (flow_at flows j)
 
 -- each list has a number per arc, from 0 to below 2 ^ 104
-pub record AreBounded (g : Graph) (flows : List (List ℤ)) : Type 0 where
+pub record AreBounded (g : Digraph) (flows : List (List ℤ)) : Type 0 where
   pub each : (j : ℕ) → j < length flows → IsBounded g (flow_at flows j)
 
 -- cut i is what the residual graph of flow j reaches from the source, at point j

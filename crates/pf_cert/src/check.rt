@@ -5,7 +5,7 @@ ghost use Rattle.pf_model.specs.Network.{IsNetworkCut};
 ghost use Rattle.pf_model.specs.Curve.{IsDivision, IsCurve, CertifiesCurve, Meets, cut_at, flow_at};
 ghost use Rattle.pf_frame.specs.Numbers.{IsBounded};
 ghost use Rattle.pf_frame.specs.Scratch.{Serves, KeepsPlaces};
-ghost use Rattle.pf_net.specs.Limits.{graph_of};
+ghost use Rattle.pf_net.specs.Limits.{digraph_of};
 ghost use Rattle.pf_cert.specs.Parts.{AreCuts, AreFlows, AreBounded, IsReached, CertifiesCut, CertifiesCuts};
 
 use crate::cuts::{are_cuts, cut_count, slopes_fall};
@@ -20,7 +20,7 @@ fn meets(net: &Net, curve: &Curve, j: usize, i: usize) -> bool
     requires point { j < length curve.now.points }
     requires place { i < length curve.now.cuts }
     requires cut { IsNetworkCut net.now (cut_at curve.now.cuts i) }
-    requires flow { IsBounded (graph_of net.now) (flow_at curve.now.flows j) }
+    requires flow { IsBounded (digraph_of net.now) (flow_at curve.now.flows j) }
     ensures { IsTrue result ↔ Meets net.now curve.now.points curve.now.cuts curve.now.flows j i }
 {
     let points = curve.points();
@@ -78,7 +78,7 @@ fn certifies_cut(
     requires division { IsDivision net.now curve.now.points curve.now.cuts }
     requires cuts { AreCuts net.now curve.now.cuts }
     requires flows { AreFlows net.now curve.now.points curve.now.flows }
-    requires bounded { AreBounded (graph_of net.now) curve.now.flows }
+    requires bounded { AreBounded (digraph_of net.now) curve.now.flows }
     requires room { Serves scratch.old net.now.nodes (length net.now.arcs) }
     requires capacities { length caps.old ≡ length net.now.arcs }
     requires nodes { length side.old ≡ net.now.nodes }
@@ -107,7 +107,7 @@ fn certifies_cuts(
     requires division { IsDivision net.now curve.now.points curve.now.cuts }
     requires cuts { AreCuts net.now curve.now.cuts }
     requires flows { AreFlows net.now curve.now.points curve.now.flows }
-    requires bounded { AreBounded (graph_of net.now) curve.now.flows }
+    requires bounded { AreBounded (digraph_of net.now) curve.now.flows }
     requires room { Serves scratch.old net.now.nodes (length net.now.arcs) }
     requires capacities { length caps.old ≡ length net.now.arcs }
     requires nodes { length side.old ≡ net.now.nodes }

@@ -14,26 +14,13 @@ pub fn cut_count(curve: &Curve) -> usize
     curve.points().len() - 1
 }
 
-// Whether the side is true at the source and false at the sink.
-fn is_cut(net: &Net, side: &[bool]) -> bool
-    requires { length side.now ≡ net.now.nodes }
-    ensures { IsTrue result ↔ IsNetworkCut net.now side.now }
-{
-    // It tells that source and sink are nodes.
-    let _ = net.frame();
-    if !side[net.source() as usize] {
-        return false;
-    }
-    !side[net.sink() as usize]
-}
-
 /// Whether each cut of the curve is true at the source and false at the sink.
 pub fn are_cuts(net: &Net, curve: &Curve) -> bool
     requires { All (λ cut. length cut ≡ net.now.nodes) curve.now.cuts }
     ensures { IsTrue result ↔ AreCuts net.now curve.now.cuts }
 {
     'cuts: for i in 0..cut_count(curve) {
-        if !is_cut(net, curve.cut(i)) {
+        if !net.is_cut(curve.cut(i)) {
             return false;
         }
     }

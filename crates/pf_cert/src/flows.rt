@@ -6,7 +6,7 @@ ghost use Rattle.pf_model.specs.Network.{IsInInterval, network_at};
 ghost use Rattle.pf_model.specs.Curve.{IsDivision};
 ghost use Rattle.pf_frame.specs.Numbers.{IsBounded};
 ghost use Rattle.pf_frame.specs.Scratch.{Serves, KeepsPlaces};
-ghost use Rattle.pf_net.specs.Limits.{graph_of};
+ghost use Rattle.pf_net.specs.Limits.{digraph_of};
 ghost use Rattle.pf_cert.specs.Parts.{AreFlows, AreBounded};
 
 use pf_curve::Curve;
@@ -22,7 +22,7 @@ fn has_flow(net: &Net, at: &Rat, flow: &[i128], scratch: &mut Scratch, caps: &mu
     requires room { Serves scratch.old net.now.nodes (length net.now.arcs) }
     requires capacities { length caps.old ≡ length net.now.arcs }
     ensures exact { IsTrue result ↔ IsFlow (network_at net.now at.now) flow.now }
-    ensures bounded { OnTrue result (IsBounded (graph_of net.now) flow.now) }
+    ensures bounded { OnTrue result (IsBounded (digraph_of net.now) flow.now) }
     ensures places { KeepsPlaces scratch.old scratch.new }
 {
     let frame = net.frame();
@@ -37,7 +37,7 @@ pub fn are_flows(net: &Net, curve: &Curve, scratch: &mut Scratch, caps: &mut [i1
     requires room { Serves scratch.old net.now.nodes (length net.now.arcs) }
     requires capacities { length caps.old ≡ length net.now.arcs }
     ensures exact { IsTrue result ↔ AreFlows net.now curve.now.points curve.now.flows }
-    ensures bounded { OnTrue result (AreBounded (graph_of net.now) curve.now.flows) }
+    ensures bounded { OnTrue result (AreBounded (digraph_of net.now) curve.now.flows) }
     ensures places { KeepsPlaces scratch.old scratch.new }
 {
     // It tells that the network is one.

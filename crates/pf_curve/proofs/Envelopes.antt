@@ -13,7 +13,7 @@ use Rattle.pf_model.specs.CurveLaws.{HasLeastParts}
 use Rattle.pf_model.proofs.Affine.{capacity_of_line}
 use Rattle.pf_model.proofs.Certificate.{point_inside, at_most_reflexive}
 use Rattle.pf_model.proofs.Parts.{curve_from_parts}
-use Rattle.pf_envelope.specs.Envelope.{Piece, IsLowerEnvelope, IsLeastAt, left_end, piece_at, no_piece}
+use Rattle.pf_envelope.specs.Envelope.{Segment, IsLowerEnvelope, IsLeastAt, left_end, segment_at, no_segment}
 use Rattle.pf_curve.specs.Cuts.{IsCutFound, IsLineOfCut, IsServed}
 use Rattle.pf_curve.specs.Flows.{AreGreatest}
 
@@ -22,30 +22,30 @@ pub record IsFoundAt (net : Network) (line : AffineLine) (side : List Bool) : Ty
   pub at : Fraction
   pub found : IsCutFound net at line side
 
--- points and cuts that belong to the pieces of an envelope
-pub record Fits (net : Network) (pieces : List Piece) (points : List Fraction) (cuts : List (List Bool)) : Type 0 where
-  pub count : length cuts ≡ length pieces
-  pub point_count : length points ≡ length pieces + 1
+-- points and cuts that belong to the segments of an envelope
+pub record Fits (net : Network) (segments : List Segment) (points : List Fraction) (cuts : List (List Bool)) : Type 0 where
+  pub count : length cuts ≡ length segments
+  pub point_count : length points ≡ length segments + 1
   pub first : point_at net points 0 ≡ net.low
-  pub right : (i : ℕ) → i < length pieces → point_at net points (i + 1) ≡ (piece_at pieces i).right
-  pub found : (i : ℕ) → i < length pieces → IsFoundAt net (piece_at pieces i).line (cut_at cuts i)
+  pub right : (i : ℕ) → i < length segments → point_at net points (i + 1) ≡ (segment_at segments i).right
+  pub found : (i : ℕ) → i < length segments → IsFoundAt net (segment_at segments i).line (cut_at cuts i)
 
-left_is : (net : Network) (pieces : List Piece) (points : List Fraction) (cuts : List (List Bool)) → Fits net pieces points cuts →
-    (i : ℕ) → i ≤ length pieces → point_at net points i ≡ left_end net.low pieces i
-left_is net pieces points cuts f zero low = f.first
-left_is net pieces points cuts f (suc i) low = sym (ap (λ n. point_at net points n) (add-one i)) ∙ f.right i (omega arith)
+left_is : (net : Network) (segments : List Segment) (points : List Fraction) (cuts : List (List Bool)) → Fits net segments points cuts →
+    (i : ℕ) → i ≤ length segments → point_at net points i ≡ left_end net.low segments i
+left_is net segments points cuts f zero low = f.first
+left_is net segments points cuts f (suc i) low = sym (ap (λ n. point_at net points n) (add-one i)) ∙ f.right i (omega arith)
 
-none_is_high : (net : Network) (pieces : List Piece) → IsMonotone net → left_end net.low pieces (length pieces) ≡ net.high → length pieces ≡ 0 → ⊥
+none_is_high : (net : Network) (segments : List Segment) → IsMonotone net → left_end net.low segments (length segments) ≡ net.high → length segments ≡ 0 → ⊥
 none_is_high net [] m e h =
     let interval = m.interval in
     let P : Fraction → Type 0 = λ x. IsBelow net.low x in
     let same = subst P (sym e) interval in
     omega (arith, ints, same)
-none_is_high net (piece ∷ pieces) m e h = absurd (omega arith)
+none_is_high net (segment ∷ segments) m e h = absurd (omega arith)
 
-some_pieces : (net : Network) (pieces : List Piece) → IsMonotone net → left_end net.low pieces (length pieces) ≡ net.high → 0 < length pieces
-some_pieces net [] m e = absurd (none_is_high net [] m e refl)
-some_pieces net (piece ∷ pieces) m e = omega arith
+some_segments : (net : Network) (segments : List Segment) → IsMonotone net → left_end net.low segments (length segments) ≡ net.high → 0 < length segments
+some_segments net [] m e = absurd (none_is_high net [] m e refl)
+some_segments net (segment ∷ segments) m e = omega arith
 
 -- the line of a least cut is least
 pub least_line : (net : Network) (x : Fraction) (line : AffineLine) (side : List Bool) → IsLeast (network_at net x) side → line ≡ line_of net side →
@@ -78,88 +78,88 @@ cut_found net x line side f =
     let cut = f.smallest.least.cut in
     record { full = cut.full; with_source = cut.with_source; without_sink = cut.without_sink }
 
-parameter_of : (net : Network) (pieces : List Piece) (points : List Fraction) (cuts : List (List Bool)) → IsMonotone net →
-    IsLowerEnvelope (IsLineOfCut net) net.low net.high pieces → Fits net pieces points cuts →
+parameter_of : (net : Network) (segments : List Segment) (points : List Fraction) (cuts : List (List Bool)) → IsMonotone net →
+    IsLowerEnvelope (IsLineOfCut net) net.low net.high segments → Fits net segments points cuts →
     (i : ℕ) → i < length points → IsParameter (point_at net points i)
-parameter_of net pieces points cuts m env f zero low = rw f.first m.low
-parameter_of net pieces points cuts m env f (suc i) low =
-    let here : i < length pieces = omega (arith, low, f.point_count) in
+parameter_of net segments points cuts m env f zero low = rw f.first m.low
+parameter_of net segments points cuts m env f (suc i) low =
+    let here : i < length segments = omega (arith, low, f.point_count) in
     let e = sym (ap (λ n. point_at net points n) (add-one i)) ∙ f.right i here in
     let P : Fraction → Type 0 = λ x. IsParameter x in
     subst P (sym e) (env.parameters i here)
 
-pub least_parts : (net : Network) (pieces : List Piece) (points : List Fraction) (cuts : List (List Bool)) → IsMonotone net →
-    IsLowerEnvelope (IsLineOfCut net) net.low net.high pieces → Fits net pieces points cuts → HasLeastParts net points cuts
-least_parts net pieces points cuts m env f =
-    let left = left_is net pieces points cuts f in
+pub least_parts : (net : Network) (segments : List Segment) (points : List Fraction) (cuts : List (List Bool)) → IsMonotone net →
+    IsLowerEnvelope (IsLineOfCut net) net.low net.high segments → Fits net segments points cuts → HasLeastParts net points cuts
+least_parts net segments points cuts m env f =
+    let left = left_is net segments points cuts f in
     let count = f.count in
     record {
       division = record {
-        some = let h = some_pieces net pieces m env.covers in omega (arith, h, count);
+        some = let h = some_segments net segments m env.covers in omega (arith, h, count);
         count = f.point_count ∙ ap (λ n. n + 1) (sym count);
-        parameters = parameter_of net pieces points cuts m env f;
+        parameters = parameter_of net segments points cuts m env f;
         low = rw f.first refl;
-        high = let e = ap (λ n. point_at net points n) count ∙ left (length pieces) (omega arith) ∙ env.covers in rw e refl;
+        high = let e = ap (λ n. point_at net points n) count ∙ left (length segments) (omega arith) ∙ env.covers in rw e refl;
         rise = λ i low.
-            let here : i < length pieces = omega (arith, low, count) in
+            let here : i < length segments = omega (arith, low, count) in
             rw (left i (omega arith), f.right i here) (env.rise i here);
       };
       least = λ i low x px h k.
-          let here : i < length pieces = omega (arith, low, count) in
+          let here : i < length segments = omega (arith, low, count) in
           let found = f.found i here in
           let h' = rw (left i (omega arith)) at h in
           let k' = rw (f.right i here) at k in
-          least_cut net x (piece_at pieces i).line (cut_at cuts i) (cut_found net found.at (piece_at pieces i).line (cut_at cuts i) found.found) found.found.line_is
+          least_cut net x (segment_at segments i).line (cut_at cuts i) (cut_found net found.at (segment_at segments i).line (cut_at cuts i) found.found) found.found.line_is
           (env.least i here x px h' k');
       somewhere = λ i low.
-          let here : i < length pieces = omega (arith, low, count) in
+          let here : i < length segments = omega (arith, low, count) in
           let found = f.found i here in
           record { at = found.at; inside = found.found.inside; smallest = found.found.smallest };
       slopes = λ i low.
-          let here : i + 1 < length pieces = omega (arith, low, count) in
+          let here : i + 1 < length segments = omega (arith, low, count) in
           let falls = env.slopes_fall i here in
           let first = ap (λ (l : AffineLine). l.b) (f.found i (omega arith)).found.line_is in
           let second = ap (λ (l : AffineLine). l.b) (f.found (i + 1) here).found.line_is in
           omega (arith, ints, falls, first, second);
     }
 
-pub envelope_is_curve : (net : Network) (pieces : List Piece) (points : List Fraction) (cuts : List (List Bool)) → IsMonotone net →
-    IsLowerEnvelope (IsLineOfCut net) net.low net.high pieces → Fits net pieces points cuts → IsCurve net points cuts
-envelope_is_curve net pieces points cuts m env f = curve_from_parts net points cuts m (least_parts net pieces points cuts m env f)
+pub envelope_is_curve : (net : Network) (segments : List Segment) (points : List Fraction) (cuts : List (List Bool)) → IsMonotone net →
+    IsLowerEnvelope (IsLineOfCut net) net.low net.high segments → Fits net segments points cuts → IsCurve net points cuts
+envelope_is_curve net segments points cuts m env f = curve_from_parts net points cuts m (least_parts net segments points cuts m env f)
 
 right_at : {A : Type 0} (net : Network) (right : A → Fraction) (line : A → AffineLine) (parts : List A) (i : ℕ) → i < length parts →
-    point_at net (net.low ∷ map right parts) (i + 1) ≡ (piece_at (map (λ p. record { right = right p; line = line p }) parts) i).right
+    point_at net (net.low ∷ map right parts) (i + 1) ≡ (segment_at (map (λ p. record { right = right p; line = line p }) parts) i).right
 right_at net right line [] i low = absurd (omega arith)
 right_at {A} net right line (p ∷ parts) i low =
-    let piece : A → Piece = λ q. record { right = right q; line = line q } in
+    let segment : A → Segment = λ q. record { right = right q; line = line q } in
     let first = get_or-map right (p ∷ parts) i p net.low low in
-    let second = get_or-map piece (p ∷ parts) i p no_piece low in
-    rw add-one (first ∙ sym (ap (λ (x : Piece). x.right) second))
+    let second = get_or-map segment (p ∷ parts) i p no_segment low in
+    rw add-one (first ∙ sym (ap (λ (x : Segment). x.right) second))
 
 found_at : {A : Type 0} (net : Network) (right at : A → Fraction) (line : A → AffineLine) (side : A → List Bool) (parts : List A) →
     All (λ p. IsCutFound net (at p) (line p) (side p)) parts → (i : ℕ) → i < length parts →
-    IsFoundAt net (piece_at (map (λ p. record { right = right p; line = line p }) parts) i).line (cut_at (map side parts) i)
+    IsFoundAt net (segment_at (map (λ p. record { right = right p; line = line p }) parts) i).line (cut_at (map side parts) i)
 found_at net right at line side [] each i low = absurd (omega arith)
 found_at {A} net right at line side (p ∷ parts) each i low =
-    let piece : A → Piece = λ q. record { right = right q; line = line q } in
+    let segment : A → Segment = λ q. record { right = right q; line = line q } in
     let here = get_or (p ∷ parts) i p in
-    let first = ap (λ (x : Piece). x.line) (get_or-map piece (p ∷ parts) i p no_piece low) in
+    let first = ap (λ (x : Segment). x.line) (get_or-map segment (p ∷ parts) i p no_segment low) in
     let second = get_or-map side (p ∷ parts) i p [] low in
     record { at = at here; found = rw (first, second) (each i p low) }
 
--- the pieces, points and cuts of one list of parts
+-- the segments, points and cuts of one list of parts
 pub fit : {A : Type 0} (net : Network) (right at : A → Fraction) (line : A → AffineLine) (side : A → List Bool) (parts : List A) →
     All (λ p. IsCutFound net (at p) (line p) (side p)) parts →
     Fits net (map (λ p. record { right = right p; line = line p }) parts) (net.low ∷ map right parts) (map side parts)
 fit {A} net right at line side parts each =
-    let piece : A → Piece = λ p. record { right = right p; line = line p } in
-    let pieces = length-map parts piece in
+    let segment : A → Segment = λ p. record { right = right p; line = line p } in
+    let segments = length-map parts segment in
     record {
-      count = length-map parts side ∙ sym pieces;
-      point_count = ap suc (length-map parts right ∙ sym pieces) ∙ sym (add-one (length (map piece parts)));
+      count = length-map parts side ∙ sym segments;
+      point_count = ap suc (length-map parts right ∙ sym segments) ∙ sym (add-one (length (map segment parts)));
       first = refl;
-      right = λ i low. right_at net right line parts i (omega (arith, low, pieces));
-      found = λ i low. found_at net right at line side parts each i (omega (arith, low, pieces));
+      right = λ i low. right_at net right line parts i (omega (arith, low, segments));
+      found = λ i low. found_at net right at line side parts each i (omega (arith, low, segments));
     }
 
 -- the same, as the code calls it: the parts were found in the network `found`, which is this one
@@ -169,11 +169,11 @@ pub curve_of_parts : {A : Type 0} (net found : Network) (right at : A → Fracti
     IsLowerEnvelope (IsLineOfCut found) lo hi (map (λ p. record { right = right p; line = line p }) parts) →
     points ≡ lo' ∷ map right listed → cuts ≡ map side parts → IsCurve net points cuts
 curve_of_parts {A} net found right at line side parts listed lo hi lo' points cuts m is_found is_lo is_hi is_lo' is_listed each env is_points is_cuts =
-    let piece : A → Piece = λ p. record { right = right p; line = line p } in
+    let segment : A → Segment = λ p. record { right = right p; line = line p } in
     let parts_found : All (λ p. IsCutFound net (at p) (line p) (side p)) parts = rw is_found at each in
-    let here : IsLowerEnvelope (IsLineOfCut net) net.low net.high (map piece parts) = rw (is_found, is_lo, is_hi) at env in
+    let here : IsLowerEnvelope (IsLineOfCut net) net.low net.high (map segment parts) = rw (is_found, is_lo, is_hi) at env in
     let e : points ≡ net.low ∷ map right parts = is_points ∙ rw (is_lo', is_listed) refl in
-    rw (e, is_cuts) (envelope_is_curve net (map piece parts) (net.low ∷ map right parts) (map side parts) m here (fit net right at line side parts parts_found))
+    rw (e, is_cuts) (envelope_is_curve net (map segment parts) (net.low ∷ map right parts) (map side parts) m here (fit net right at line side parts parts_found))
 
 pub all_inside : (net : Network) (points : List Fraction) (cuts : List (List Bool)) → IsMonotone net → IsCurve net points cuts → All (IsInInterval net) points
 all_inside net points cuts m c = λ i d low.

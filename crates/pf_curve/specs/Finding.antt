@@ -3,12 +3,12 @@ use Rattle.std.specs.Prelude.{◌≡◌, ℤ, List, length}
 use Rattle.pf_model.specs.Network.{Network}
 use Rattle.pf_frame.specs.declared.scratch.Scratch.{Scratch}
 use Rattle.pf_frame.specs.Scratch.{Serves}
-use Rattle.pf_net.specs.Limits.{graph_of}
+use Rattle.pf_net.specs.Limits.{digraph_of}
 use Rattle.pf_preflow.specs.Engine.{Engined, IsFor}
 
 -- the engine is for the network's nodes and arcs, and sends from its source to its sink
 pub record IsEngineOf (net : Network) (engine : Engined) : Type 0 where
-  pub fits : IsFor engine (graph_of net)
+  pub fits : IsFor engine (digraph_of net)
   pub source : engine.source ≡ net.source
   pub sink : engine.sink ≡ net.sink
 

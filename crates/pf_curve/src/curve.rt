@@ -1,92 +1,16 @@
 // The whole least-cut function.
-ghost use Rattle.std.specs.Prelude.{◌≡◌, ◌+◌, ◌++◌, ◌<◌, ◌≤◌, [], ◌∷◌, length, IfOk, OnErr};
+ghost use Rattle.std.specs.Prelude.{◌≡◌, ◌+◌, ◌<◌, ◌≤◌, length};
 ghost use Rattle.pf_model.specs.Curve.{cut_at, flow_at};
 
-use pf_frame::{FlowTable, NoMemory, Side};
+use pf_frame::{FlowTable, List, Side};
 use pf_rat::Rat;
-use std::alloc::Global;
 use std::marker::Model;
 
-/// A list of parameters. Contracts see the list.
-#[derive(Drop)]
-pub struct Points {
-    items: Vec<Rat>,
-}
+/// A list of parameters.
+pub type Points = List<Rat>;
 
-impl Model for Points {
-    ghost use Rattle.std.specs.Prelude.{List};
-    ghost use Rattle.pf_model.specs.Fraction.{Fraction};
-
-    ghost Value = { List Fraction };
-
-    ghost view = { λ list. list.items.items };
-}
-
-impl Points {
-    /// The empty list. It takes no memory.
-    pub fn new(alloc: Global) -> Points
-        ensures { result ≡ [] }
-    {
-        Points {
-            items: Vec::new(alloc),
-        }
-    }
-
-    /// Adds the item at the end. `NoMemory` leaves the list as it was.
-    pub fn push(&mut self, item: Rat) -> Result<(), NoMemory>
-        ensures added { IfOk result (λ _. self.new ≡ self.old ++ item ∷ []) }
-        ensures unchanged { OnErr result (self.new ≡ self.old) }
-    {
-        self.items.push(item)?;
-        Ok(())
-    }
-
-    pub fn get(&self) -> &[Rat]
-        ensures { result.now ≡ self.now }
-    {
-        self.items.as_slice()
-    }
-}
-
-/// A list of sides. Contracts see the list.
-#[derive(Drop)]
-pub struct Sides {
-    items: Vec<Side>,
-}
-
-impl Model for Sides {
-    ghost use Rattle.std.specs.Prelude.{List, Bool};
-
-    ghost Value = { List (List Bool) };
-
-    ghost view = { λ list. list.items.items };
-}
-
-impl Sides {
-    /// The empty list. It takes no memory.
-    pub fn new(alloc: Global) -> Sides
-        ensures { result ≡ [] }
-    {
-        Sides {
-            items: Vec::new(alloc),
-        }
-    }
-
-    /// Adds the item at the end. `NoMemory` leaves the list as it was, and drops the item.
-    pub fn push(&mut self, item: Side) -> Result<(), NoMemory>
-        ensures added { IfOk result (λ _. self.new ≡ self.old ++ item ∷ []) }
-        ensures unchanged { OnErr result (self.new ≡ self.old) }
-    {
-        self.items.push(item)?;
-        Ok(())
-    }
-
-    pub fn get(&self) -> &[Side]
-        ensures { result.now ≡ self.now }
-    {
-        self.items.as_slice()
-    }
-}
+/// A list of sides.
+pub type Sides = List<Side>;
 
 /// Points, a cut between each and the next, and a flow at each point in units of `1/q` of that point `p/q`. Cuts are
 /// indexed by node, flows by arc.

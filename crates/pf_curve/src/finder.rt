@@ -2,13 +2,13 @@
 ghost use Rattle.std.specs.Prelude.{◌≡◌, length, map, IfOk};
 ghost use Rattle.pf_model.specs.Cut.{IsSmallestLeast};
 ghost use Rattle.pf_model.specs.Flow.{IsGreatest};
-ghost use Rattle.pf_model.specs.Graph.{network_of};
+ghost use Rattle.pf_model.specs.Digraph.{network_of};
 ghost use Rattle.pf_model.specs.Network.{IsInInterval, capacity_at, network_at};
 ghost use Rattle.pf_model.specs.Curve.{IsPoint};
 ghost use Rattle.pf_model.specs.Answer.{IsFlowShape, IsPointShape};
 ghost use Rattle.pf_frame.specs.Numbers.{IsBounded};
 ghost use Rattle.pf_frame.specs.Scratch.{Serves, KeepsPlaces};
-ghost use Rattle.pf_net.specs.Limits.{graph_of};
+ghost use Rattle.pf_net.specs.Limits.{digraph_of};
 ghost use Rattle.pf_curve.specs.Finding.{IsEngineOf};
 
 use crate::point::Point;
@@ -49,8 +49,8 @@ fn write_flow(net: &Net, at: &Rat, engine: &mut Engine, caps: &mut [i128], flow:
     requires numbers { length flow.old ≡ length net.now.arcs }
     ensures engine { IsEngineOf net.now engine.new }
     ensures capacities { caps.new ≡ map (capacity_at at.now) net.now.arcs }
-    ensures bounded { IsBounded (graph_of net.now) caps.new }
-    ensures best { IsGreatest (network_of (graph_of net.now) caps.new net.now.source net.now.sink) flow.new }
+    ensures bounded { IsBounded (digraph_of net.now) caps.new }
+    ensures best { IsGreatest (network_of (digraph_of net.now) caps.new net.now.source net.now.sink) flow.new }
     ensures greatest { IsGreatest (network_at net.now at.now) flow.new }
     ensures shape { IsFlowShape net.now flow.new }
 {
@@ -141,6 +141,27 @@ impl<'a> Finder<'a> {
             &mut self.scratch,
             &mut self.caps,
             &mut self.flow,
+            side,
+        );
+    }
+
+    /// Writes the smallest least cut at a parameter of the interval, indexed by nodes, and a greatest flow there, indexed by arcs and
+    /// in units of `1/q` where the parameter is `p/q`.
+    pub fn write_point(&mut self, at: &Rat, side: &mut [bool], flow: &mut [i128])
+        requires inside { IsInInterval self.old at.now }
+        requires nodes { length side.old ≡ self.old.nodes }
+        requires numbers { length flow.old ≡ length self.old.arcs }
+        ensures point { IsPoint self.old at.now side.new flow.new }
+        ensures shape { IsPointShape self.old (record { at = at.now; side = side.new; flow = flow.new }) }
+        ensures same { self.new ≡ self.old }
+    {
+        write_point(
+            self.net,
+            at,
+            &mut self.engine,
+            &mut self.scratch,
+            &mut self.caps,
+            flow,
             side,
         );
     }

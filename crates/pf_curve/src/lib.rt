@@ -12,6 +12,7 @@ mod tests;
 mod whole;
 
 pub use curve::{Curve, Points, Sides};
+pub use finder::Finder;
 pub use point::Point;
 pub use single::{AtBad, at};
 pub use whole::curve_of;

@@ -23,6 +23,16 @@ pub enum AtBad {
     NoMemory,
 }
 
+impl From<NoMemory> for AtBad {
+    ghost use Rattle.pf_curve.specs.declared.single.AtBad.TheVariants.{NoMemory};
+
+    ghost from_gives = { λ _ bad. bad ≡ NoMemory };
+
+    fn from(_error: NoMemory) -> AtBad {
+        AtBad::NoMemory
+    }
+}
+
 // The smallest least cut at a parameter of the interval, and a greatest flow there.
 fn point_at(alloc: Global, net: &Net, at: &Rat) -> Result<Point, NoMemory>
     requires { IsInInterval net.now at.now }
@@ -57,8 +67,5 @@ pub fn at(alloc: Global, net: &Net, at: &Rat) -> Result<Point, AtBad>
     if !lies_inside(net, at) {
         return Err(AtBad::Outside);
     }
-    match point_at(alloc, net, at) {
-        Ok(point) => Ok(point),
-        Err(_) => Err(AtBad::NoMemory),
-    }
+    Ok(point_at(alloc, net, at)?)
 }

@@ -3,12 +3,18 @@
 #![tactic(auto)]
 
 ghost use Rattle.std.specs.Prelude.{◌≡◌, ◌≢◌, ℕ, ◌+◌, ◌<◌, ◌≤◌, length, slice_index_or, IfOk};
-ghost use Rattle.pf_model.specs.Graph.{Graph, IsGraph, arcs_out, arcs_in};
+ghost use Rattle.pf_model.specs.Digraph.{Digraph, IsDigraph, arcs_out, arcs_in};
+ghost use Rattle.pf_model.specs.Limits.{most_nodes, most_arcs};
 
 use crate::group::group;
 use std::alloc::{AllocError, AllocFailed, Global};
 use std::marker::Model;
 use thiserror::Error;
+
+/// The most nodes and the most arcs of a frame.
+pub const MOST_NODES: u32 = 8192;
+
+pub const MOST_ARCS: usize = 32768;
 
 /// Memory was not found.
 #[derive(Clone, Copy, Debug, PartialEq, Eq, Error)]
@@ -39,10 +45,10 @@ pub struct Frame {
 }
 
 impl Model for Frame {
-    ghost use Rattle.pf_model.specs.Graph.{Graph};
+    ghost use Rattle.pf_model.specs.Digraph.{Digraph};
     ghost use Rattle.pf_frame.specs.Frame.{IsFrame};
 
-    ghost Value = { Graph };
+    ghost Value = { Digraph };
 
     ghost view = { λ f. record { nodes = f.node_count; ends = f.arcs.items } };
 
@@ -52,17 +58,27 @@ impl Model for Frame {
 impl Frame {
     /// The graph with the nodes below `n` and these arcs, each a tail and a head. Takes memory and time in proportion to nodes and arcs.
     pub fn build(alloc: Global, n: u32, ends: &[(u32, u32)]) -> Result<Frame, NoMemory>
-        requires few_nodes { n ≤ 8192 }
-        requires few_arcs { length ends.now ≤ 32768 }
-        requires graph { IsGraph (record { nodes = n; ends = ends.now }) }
+        requires few_nodes { n ≤ most_nodes }
+        requires few_arcs { length ends.now ≤ most_arcs }
+        requires graph { IsDigraph (record { nodes = n; ends = ends.now }) }
         ensures { IfOk result (λ f. f ≡ record { nodes = n; ends = ends.now }) }
     {
         let arcs = Vec::from_slice(alloc, ends)?;
-        let (out_starts, out_order) = group(alloc, n, ends, false)?;
-        let (in_starts, in_order) = group(alloc, n, ends, true)?;
+        Frame::from_ends(alloc, n, arcs)
+    }
+
+    /// The same of arcs that are handed over, so that none is copied.
+    pub fn from_ends(alloc: Global, n: u32, ends: Vec<(u32, u32)>) -> Result<Frame, NoMemory>
+        requires few_nodes { n ≤ most_nodes }
+        requires few_arcs { length ends.items ≤ most_arcs }
+        requires graph { IsDigraph (record { nodes = n; ends = ends.items }) }
+        ensures { IfOk result (λ f. f ≡ record { nodes = n; ends = ends.items }) }
+    {
+        let (out_starts, out_order) = group(alloc, n, ends.as_slice(), false)?;
+        let (in_starts, in_order) = group(alloc, n, ends.as_slice(), true)?;
         Ok(Frame {
             node_count: n,
-            arcs,
+            arcs: ends,
             out_starts,
             out_order,
             in_starts,
@@ -73,8 +89,8 @@ impl Frame {
     /// The number of nodes.
     pub fn nodes(&self) -> u32
         ensures value { result ≡ self.now.nodes }
-        ensures few { result ≤ 8192 }
-        ensures graph { IsGraph self.now }
+        ensures few { result ≤ most_nodes }
+        ensures graph { IsDigraph self.now }
     {
         self.node_count
     }
@@ -82,7 +98,7 @@ impl Frame {
     /// The number of arcs.
     pub fn arcs(&self) -> u32
         ensures value { result ≡ length self.now.ends }
-        ensures few { result ≤ 32768 }
+        ensures few { result ≤ most_arcs }
     {
         self.arcs.len() as u32
     }
@@ -133,7 +149,7 @@ mod scratch;
 mod table;
 
 pub use flow::{is_flow, reach, value};
-pub use lists::{Numbers, Side};
+pub use lists::{List, Numbers, Side};
 pub use scratch::Scratch;
 pub use table::FlowTable;
 

@@ -1,121 +1,72 @@
-// Lists that grow item by item, with the allocator that they were made with.
+// The list that grows item by item, with the allocator that it was made with.
 ghost use Rattle.std.specs.Prelude.{◌≡◌, ◌++◌, [], ◌∷◌, IfOk, OnErr};
 
 use crate::NoMemory;
 use std::alloc::Global;
 use std::marker::Model;
 
-/// A list of truth values, as of a side: one per node. Contracts see the list.
+/// A list that grows at its end. Contracts see its items, in the order in which they were added. Each list of the answers
+/// is one of these under a name of its own, as `Side` and `Numbers` here.
 #[derive(Drop)]
-pub struct Side {
-    items: Vec<bool>,
+pub struct List<T: Drop> {
+    items: Vec<T>,
 }
 
-impl Model for Side {
-    ghost use Rattle.std.specs.Prelude.{List, Bool};
+impl<T: Drop> Model for List<T> {
+    ghost use Rattle.std.specs.Prelude as prelude;
 
-    ghost Value = { List Bool };
+    ghost Value = { prelude.List T };
 
     ghost view = { λ list. list.items.items };
 }
 
-impl Side {
+impl<T: Drop> List<T> {
     /// The empty list. It takes no memory.
-    pub fn new(alloc: Global) -> Side
+    pub fn new(alloc: Global) -> List<T>
         ensures { result ≡ [] }
     {
-        Side {
+        List {
             items: Vec::new(alloc),
         }
     }
 
     /// The list of the items of `items`. It takes no memory.
-    pub fn from_vec(items: Vec<bool>) -> Side
+    pub fn from_vec(items: Vec<T>) -> List<T>
         ensures { result ≡ items.items }
     {
-        Side { items }
+        List { items }
     }
 
     /// The vector of the items. It takes no memory.
-    pub fn into_vec(self) -> Vec<bool>
+    pub fn into_vec(self) -> Vec<T>
         ensures { result.items ≡ self }
     {
-        let Side { items } = self;
+        let List { items } = self;
         items
     }
 
-    /// Adds the value at the end. `NoMemory` leaves the list as it was, and drops the value.
-    pub fn push(&mut self, value: bool) -> Result<(), NoMemory>
-        ensures added { IfOk result (λ _. self.new ≡ self.old ++ value ∷ []) }
+    /// Adds the item at the end. `NoMemory` leaves the list as it was, and drops the item.
+    pub fn push(&mut self, item: T) -> Result<(), NoMemory>
+        ensures added { IfOk result (λ _. self.new ≡ self.old ++ item ∷ []) }
         ensures unchanged { OnErr result (self.new ≡ self.old) }
     {
-        self.items.push(value)?;
+        self.items.push(item)?;
         Ok(())
     }
 
     /// The items, in the order in which they were added.
-    pub fn get(&self) -> &[bool]
+    pub fn get(&self) -> &[T]
         ensures { result.now ≡ self.now }
     {
         self.items.as_slice()
     }
 }
 
-/// A list of whole numbers, as of a flow: one per arc. Contracts see the list.
-#[derive(Drop)]
-pub struct Numbers {
-    items: Vec<i128>,
-}
+/// A list of truth values, as of a side: one per node.
+pub type Side = List<bool>;
 
-impl Model for Numbers {
-    ghost use Rattle.std.specs.Prelude.{List, ℤ};
-
-    ghost Value = { List ℤ };
-
-    ghost view = { λ list. list.items.items };
-}
-
-impl Numbers {
-    /// The empty list. It takes no memory.
-    pub fn new(alloc: Global) -> Numbers
-        ensures { result ≡ [] }
-    {
-        Numbers {
-            items: Vec::new(alloc),
-        }
-    }
-
-    /// The list of the items of `items`. It takes no memory.
-    pub fn from_vec(items: Vec<i128>) -> Numbers
-        ensures { result ≡ items.items }
-    {
-        Numbers { items }
-    }
-
-    /// The vector of the items. It takes no memory.
-    pub fn into_vec(self) -> Vec<i128>
-        ensures { result.items ≡ self }
-    {
-        let Numbers { items } = self;
-        items
-    }
-
-    /// Adds the number at the end. `NoMemory` leaves the list as it was, and drops the number.
-    pub fn push(&mut self, number: i128) -> Result<(), NoMemory>
-        ensures added { IfOk result (λ _. self.new ≡ self.old ++ number ∷ []) }
-        ensures unchanged { OnErr result (self.new ≡ self.old) }
-    {
-        self.items.push(number)?;
-        Ok(())
-    }
-
-    /// The items, in the order in which they were added.
-    pub fn get(&self) -> &[i128]
-        ensures { result.now ≡ self.now }
-    {
-        self.items.as_slice()
-    }
-}
+/// A list of whole numbers, as of a flow: one per arc.
+pub type Numbers = List<i128>;
 
 #[cfg(test)]
 mod tests {

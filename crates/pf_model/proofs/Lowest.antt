@@ -162,7 +162,7 @@ same_fraction x y px py lx ly e =
     let second : ℤ → Fraction = λ n. record { p = y.p; q = n } in
     ap first p_is ∙ ap second q_is
 
-equal_both : (x y z : Fraction) → IsParameter x → IsEqual y x → IsEqual z x → IsEqual y z
+pub equal_both : (x y z : Fraction) → IsParameter x → IsEqual y x → IsEqual z x → IsEqual y z
 equal_both x y z h e f =
     let a = mul_comm x.q (y.p *ℤ z.q) ∙ mul_assoc y.p z.q x.q ∙ ap (λ n. y.p *ℤ n) (mul_comm z.q x.q) ∙ sym (mul_assoc y.p x.q z.q) ∙ ap (λ n. n *ℤ z.q) e ∙ mul_assoc x.p y.q z.q in
     let b = mul_comm x.q (z.p *ℤ y.q) ∙ mul_assoc z.p y.q x.q ∙ ap (λ n. z.p *ℤ n) (mul_comm y.q x.q) ∙ sym (mul_assoc z.p x.q y.q) ∙ ap (λ n. n *ℤ y.q) f ∙ mul_assoc x.p z.q y.q in

@@ -1,6 +1,7 @@
 -- Answers over networks, and the shapes that their numbers and lists have, whatever they say.
 use Rattle.std.specs.Prelude.{◌≡◌, ℕ, ◌+◌, ◌<◌, ◌≤◌, ◌^◌, ℤ, pos, neg_ℤ, ◌<ℤ◌, Bool, List, length, All}
 use Rattle.pf_model.specs.Fraction.{Fraction, IsLowest, IsBoundedFraction}
+use Rattle.pf_model.specs.Limits.{capacity_bound}
 use Rattle.pf_model.specs.Network.{Network, IsNetworkCut}
 
 -- a cut and a flow at one parameter
@@ -31,10 +32,10 @@ pub record IsFractionShape (x : Fraction) : Type 0 where
   pub bounds : IsBoundedFraction x
   pub lowest : IsLowest x
 
--- one number for each arc, each of a size below 2^104
+-- one number for each arc, each of a size below the bound of capacities
 pub record IsFlowShape (net : Network) (flow : List ℤ) : Type 0 where
   pub full : length flow ≡ length net.arcs
-  pub each : All (IsWithinSize (2 ^ 104)) flow
+  pub each : All (IsWithinSize capacity_bound) flow
 
 -- a fraction, a side that is true at the source and false at the sink, and a number for each arc
 pub record IsPointShape (net : Network) (point : Point) : Type 0 where

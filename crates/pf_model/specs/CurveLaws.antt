@@ -1,11 +1,15 @@
 -- What holds of the curve of a monotone network.
-use Rattle.std.specs.Prelude.{◌≡◌, ℕ, ◌+◌, ◌<◌, ◌≤◌, ℤ, Bool, List, length}
+use Rattle.std.specs.Prelude.{◌≡◌, ℕ, ◌+◌, ◌<◌, ◌≤◌, ℤ, Bool, List, length, ◌↔◌}
 use Rattle.pf_model.specs.Fraction.{Fraction, IsParameter, IsAtMost, IsEqual, IsLowest}
-use Rattle.pf_model.specs.Cut.{IsLeast, IsSmallestLeast}
+use Rattle.pf_model.specs.Cut.{IsCut, IsLeast, IsSmallestLeast}
 use Rattle.pf_model.specs.Flow.{IsGreatest}
 use Rattle.pf_model.specs.Residual.{IsReach}
-use Rattle.pf_model.specs.Network.{Network, IsMonotone, IsInInterval, network_at}
+use Rattle.pf_model.specs.Network.{Network, IsMonotone, IsInInterval, IsNetworkCut, network_at}
 use Rattle.pf_model.specs.Curve.{IsDivision, IsCurve, CertifiesCurve, SlopesFall, IsPoint, point_at, cut_at}
+
+-- the cuts of a network are those of it at any parameter
+abbrev pub CutsAreOfNetwork : Type 0
+CutsAreOfNetwork = (net : Network) (x : Fraction) (side : List Bool) → IsNetworkCut net side ↔ IsCut (network_at net x) side
 
 -- what certifies a curve proves it
 abbrev pub CertificateImpliesCurve : Type 0

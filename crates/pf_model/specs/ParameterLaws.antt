@@ -1,6 +1,7 @@
 -- What holds of parameters.
 use Rattle.std.specs.Prelude.{◌≡◌, ◌⊎◌}
-use Rattle.pf_model.specs.Fraction.{Fraction, IsParameter, IsBelow, IsAtMost, IsEqual, IsLowest, lowest}
+use Rattle.std.specs.Ordering.{MatchOrdering}
+use Rattle.pf_model.specs.Fraction.{Fraction, IsParameter, IsBelow, IsAtMost, IsEqual, IsLowest, fraction_cmp, lowest}
 
 -- the order of parameters is an order: total, transitive, and antisymmetric up to equality
 abbrev pub OrderIsTotal : Type 0
@@ -11,6 +12,10 @@ OrderIsTransitive = (x y z : Fraction) → IsParameter x → IsParameter y → I
 
 abbrev pub OrderIsAntisymmetric : Type 0
 OrderIsAntisymmetric = (x y : Fraction) → IsAtMost x y → IsAtMost y x → IsEqual x y
+
+-- and it is what `fraction_cmp` answers
+abbrev pub OrderIsCompared : Type 0
+OrderIsCompared = (x y : Fraction) → IsParameter x → IsParameter y → MatchOrdering (fraction_cmp x y) (IsBelow x y) (IsEqual x y) (IsBelow y x)
 
 -- y is x in lowest terms
 pub record IsLowestOf (x y : Fraction) : Type 0 where

@@ -10,10 +10,10 @@ use Rattle.pf_model.specs.declared.AffineArc.{AffineArc}
 use Rattle.pf_model.specs.declared.Sense.TheVariants.{Rising}
 use Rattle.pf_model.specs.Fraction.{Fraction, IsParameter, IsBelow, is_below}
 use Rattle.pf_model.specs.Network.{Network, IsMonotone, IsMonotoneArc, capacity_at, keeps_slope, ends_of}
-use Rattle.pf_model.specs.Graph.{IsGraph}
+use Rattle.pf_model.specs.Digraph.{IsDigraph}
 use Rattle.pf_model.proofs.Affine.{no_arc}
 use Rattle.pf_net.specs.declared.net.NetBad.TheVariants.{TooBig, SameEnds, EmptyInterval, BadEnd, NotMonotone, Negative}
-use Rattle.pf_net.specs.Limits.{IsSmallArc, IsNear, IsWithinLimits, IsBuilt, graph_of}
+use Rattle.pf_net.specs.Limits.{IsSmallArc, IsNear, IsWithinLimits, IsBuilt, digraph_of}
 use Rattle.pf_net.specs.Refusal.{is_large, is_far, is_too_big, ends_outside, is_negative, arc_refusal, arcs_refusal, or_else, refusal_of}
 
 -- a chain of tests that refuses nothing
@@ -116,7 +116,7 @@ built net rising source sink low high h =
       limits = limits net a.0;
     }
 
-pub graph_is : (net : Network) → IsMonotone net → IsGraph (graph_of net)
+pub graph_is : (net : Network) → IsMonotone net → IsDigraph (digraph_of net)
 graph_is net m = record {
   tails = λ i low.
       let here : i < length net.arcs = omega (arith, low, length-map net.arcs ends_of) in

@@ -9,7 +9,7 @@ use Rattle.std.proofs.lemmas.List.{length-map, get_or-map}
 use Rattle.pf_model.specs.Network.{Network, IsInInterval, capacity_at, ends_of}
 use Rattle.pf_model.proofs.Affine.{no_arc, proper_at}
 use Rattle.pf_frame.specs.Numbers.{IsBounded}
-use Rattle.pf_net.specs.Limits.{IsSmallArc, IsBuilt, graph_of}
+use Rattle.pf_net.specs.Limits.{IsSmallArc, IsBuilt, digraph_of}
 
 pub record IsShort (arc : AffineArc) (x : Fraction) : Type 0 where
   pub constant : nat_abs (arc.a *ℤ x.q) ≤ 2 ^ 102
@@ -23,7 +23,7 @@ short arc x s f = record {
 
 -- the capacities of a network at a parameter of its interval
 pub bounded_capacities : (net : Network) (x : Fraction) → IsBuilt net → IsInInterval net x → IsBoundedFraction x →
-    IsBounded (graph_of net) (map (capacity_at x) net.arcs)
+    IsBounded (digraph_of net) (map (capacity_at x) net.arcs)
 bounded_capacities net x built inside bounds = record {
   full = length-map net.arcs (capacity_at x) ∙ sym (length-map net.arcs ends_of);
   low = (proper_at net x built.monotone inside).low;

@@ -3,20 +3,21 @@ use Rattle.std.specs.Prelude.{ℕ, suc, ◌^◌, pos, ◌*ℤ◌, Bool, ◌||◌
 use Rattle.std.specs.List.{list_any}
 use Rattle.pf_model.specs.declared.AffineArc.{AffineArc}
 use Rattle.pf_model.specs.Fraction.{Fraction, is_below}
+use Rattle.pf_model.specs.Limits.{most_nodes, most_arcs, most_constant, most_slope, most_end}
 use Rattle.pf_model.specs.Network.{Network, capacity_at, keeps_slope}
 use Rattle.pf_net.specs.declared.net.NetBad.{NetBad}
 use Rattle.pf_net.specs.declared.net.NetBad.TheVariants.{TooBig, SameEnds, EmptyInterval, BadEnd, NotMonotone, Negative}
 
 -- a coefficient is past its limit
 abbrev pub is_large : AffineArc → Bool
-is_large arc = nat_lt (2 ^ 56) (nat_abs arc.a) || nat_lt (2 ^ 30) (nat_abs arc.b)
+is_large arc = nat_lt most_constant (nat_abs arc.a) || nat_lt most_slope (nat_abs arc.b)
 
--- the parameter has a size above 2 ^ 44
+-- the parameter has a size above that of an end of an interval
 abbrev pub is_far : Fraction → Bool
-is_far x = int_lt (pos (2 ^ 44) *ℤ x.q) (pos (nat_abs x.p))
+is_far x = int_lt (pos most_end *ℤ x.q) (pos (nat_abs x.p))
 
 abbrev pub is_too_big : Network → Bool
-is_too_big net = nat_lt 8192 net.nodes || nat_lt 32768 (length net.arcs) || list_any is_large net.arcs || is_far net.low || is_far net.high
+is_too_big net = nat_lt most_nodes net.nodes || nat_lt most_arcs (length net.arcs) || list_any is_large net.arcs || is_far net.low || is_far net.high
 
 abbrev pub ends_outside : Network → AffineArc → Bool
 ends_outside net arc = nat_le net.nodes arc.tail || nat_le net.nodes arc.head

@@ -5,17 +5,13 @@ ghost use Rattle.pf_model.specs.declared.AffineArc.{AffineArc};
 ghost use Rattle.pf_model.specs.declared.Sense.TheVariants.{Rising};
 ghost use Rattle.pf_model.specs.Fraction.{IsParameter};
 ghost use Rattle.pf_model.specs.Network.{capacity_at, keeps_slope};
-ghost use Rattle.pf_net.specs.Limits.{IsSmallArc};
+ghost use Rattle.pf_net.specs.Limits.{IsSmallArc, rising};
 ghost use Rattle.pf_net.specs.Refusal.{is_large, is_far, is_too_big, arc_refusal, arcs_refusal, refusal_of};
 
 use crate::net::NetBad;
+use pf_frame::{MOST_ARCS, MOST_NODES};
 use pf_model::AffineArc;
 use pf_rat::Rat;
-use std::cmp::Ordering;
-
-const MOST_NODES: u32 = 8192;
-
-const MOST_ARCS: usize = 32768;
 
 // A coefficient is past its limit.
 fn has_large(arc: &AffineArc) -> bool
@@ -32,7 +28,8 @@ fn any_large(arcs: &[AffineArc]) -> bool
 
 // The parameter has a size above 2^44.
 fn lies_far(x: &Rat) -> bool
-    ensures { result ≡ is_far x.now }
+    ensures far { result ≡ is_far x.now }
+    ensures parameter { IsParameter x.now }
 {
     (x.q() << 44) < x.p().abs()
 }
@@ -69,7 +66,7 @@ fn against_arc(
     arc: &AffineArc,
 ) -> Option<NetBad>
     requires { is_large arc.now ≡ false }
-    ensures { (all : List AffineArc) → result ≡ arc_refusal (record { nodes = n; source = s; sink = t; sense = Rising; low = lo.now; high = hi.now; arcs = all }) i arc.now }
+    ensures { (all : List AffineArc) → result ≡ arc_refusal (rising n s t lo.now hi.now all) i arc.now }
 {
     if arc.tail >= n || arc.head >= n {
         return Some(NetBad::BadEnd(i));
@@ -86,7 +83,7 @@ fn against_arc(
 // The first reason against an arc.
 fn against_arcs(n: u32, s: u32, t: u32, lo: &Rat, hi: &Rat, arcs: &[AffineArc]) -> Option<NetBad>
     requires { list_any is_large arcs.now ≡ false }
-    ensures { (all : List AffineArc) → result ≡ arcs_refusal (record { nodes = n; source = s; sink = t; sense = Rising; low = lo.now; high = hi.now; arcs = all }) 0 arcs.now }
+    ensures { (all : List AffineArc) → result ≡ arcs_refusal (rising n s t lo.now hi.now all) 0 arcs.now }
 {
     'arcs: for i in 0..arcs.len() {
         if let Some(bad) = against_arc(n, s, t, lo, hi, i, &arcs[i]) {
@@ -105,7 +102,7 @@ pub fn first_refusal(
     hi: &Rat,
     arcs: &[AffineArc],
 ) -> Option<NetBad>
-    ensures { result ≡ refusal_of (record { nodes = n; source = s; sink = t; sense = Rising; low = lo.now; high = hi.now; arcs = arcs.now }) }
+    ensures { result ≡ refusal_of (rising n s t lo.now hi.now arcs.now) }
 {
     if n > MOST_NODES || arcs.len() > MOST_ARCS || any_large(arcs) || lies_far(lo) || lies_far(hi) {
         return Some(NetBad::TooBig);
@@ -113,7 +110,7 @@ pub fn first_refusal(
     if s == t {
         return Some(NetBad::SameEnds);
     }
-    if lo.cmp(hi) != Ordering::Less {
+    if !(lo < hi) {
         return Some(NetBad::EmptyInterval);
     }
     against_arcs(n, s, t, lo, hi, arcs)

@@ -1,10 +1,10 @@
 // A network, and how it is built.
-ghost use Rattle.std.specs.Prelude.{◌≡◌, ◌≢◌, ◌<◌, ◌≤◌, length, get_or, map, pos, IfOk, Some, None, Err};
+ghost use Rattle.std.specs.Prelude.{◌≡◌, ◌≢◌, ◌<◌, ◌≤◌, length, get_or, map, pos, IfOk, IsTrue, ◌↔◌, Some, None, Err};
 ghost use Rattle.pf_model.specs.declared.AffineArc.{AffineArc};
 ghost use Rattle.pf_model.specs.declared.Sense.TheVariants.{Rising};
 ghost use Rattle.pf_model.specs.Network.{Network, IsInInterval, IsNetworkCut, capacity_at, cut_a, cut_b};
 ghost use Rattle.pf_frame.specs.Numbers.{IsBounded};
-ghost use Rattle.pf_net.specs.Limits.{IsBuilt, graph_of};
+ghost use Rattle.pf_net.specs.Limits.{IsBuilt, digraph_of, rising};
 ghost use Rattle.pf_net.specs.Refusal.{refusal_of};
 
 use crate::checks::first_refusal;
@@ -35,6 +35,16 @@ pub enum NetBad {
     NoMemory,
 }
 
+impl From<NoMemory> for NetBad {
+    ghost use Rattle.pf_net.specs.declared.net.NetBad.TheVariants.{NoMemory};
+
+    ghost from_gives = { λ _ bad. bad ≡ NoMemory };
+
+    fn from(_error: NoMemory) -> NetBad {
+        NetBad::NoMemory
+    }
+}
+
 /// A rising parametric network. The capacity of an arc at the parameter `l` is `a + b l`.
 #[derive(Drop)]
 pub struct Net {
@@ -50,14 +60,14 @@ impl Model for Net {
     ghost use Rattle.std.specs.Prelude.{◌≡◌};
     ghost use Rattle.pf_model.specs.declared.Sense.TheVariants.{Rising};
     ghost use Rattle.pf_model.specs.Network.{Network};
-    ghost use Rattle.pf_net.specs.Limits.{IsBuilt, graph_of};
+    ghost use Rattle.pf_net.specs.Limits.{IsBuilt, digraph_of};
 
     ghost Value = { Network };
 
     ghost view = { λ n. record { nodes = n.frame.nodes; source = n.s; sink = n.t; sense = Rising; low = n.lo; high = n.hi; arcs = n.arcs.items } };
 
     ghost invariant = { λ n. IsBuilt (record { nodes = n.frame.nodes; source = n.s; sink = n.t; sense = Rising; low = n.lo; high = n.hi; arcs = n.arcs.items })
-        × (n.frame ≡ graph_of (record { nodes = n.frame.nodes; source = n.s; sink = n.t; sense = Rising; low = n.lo; high = n.hi; arcs = n.arcs.items })) };
+        × (n.frame ≡ digraph_of (record { nodes = n.frame.nodes; source = n.s; sink = n.t; sense = Rising; low = n.lo; high = n.hi; arcs = n.arcs.items })) };
 }
 
 // The ends of each arc.
@@ -83,22 +93,13 @@ fn make(
 ) -> Result<Net, NoMemory>
     requires source { s < n }
     requires sink { t < n }
-    requires none { refusal_of (record { nodes = n; source = s; sink = t; sense = Rising; low = lo; high = hi; arcs = arcs.now }) ≡ None }
-    ensures { IfOk result (λ net. net ≡ record { nodes = n; source = s; sink = t; sense = Rising; low = lo; high = hi; arcs = arcs.now }) }
+    requires none { refusal_of (rising n s t lo hi arcs.now) ≡ None }
+    ensures { IfOk result (λ net. net ≡ rising n s t lo hi arcs.now) }
 {
     let (low, high) = (lo.q(), hi.q());
     prove!(low >= 1 && high >= 1);
-    let ends = ends_of_arcs(alloc, arcs)?;
-    let frame = Frame::build(alloc, n, &ends)?;
     let arcs = Vec::from_slice(alloc, arcs)?;
-    Ok(Net {
-        frame,
-        arcs,
-        s,
-        t,
-        lo,
-        hi,
-    })
+    Net::from_arcs(alloc, n, s, t, lo, hi, arcs)
 }
 
 impl Net {
@@ -117,23 +118,46 @@ impl Net {
         requires two { 2 ≤ n }
         requires source { s < n }
         requires sink { t < n }
-        ensures given { IfOk result (λ net. net ≡ record { nodes = n; source = s; sink = t; sense = Rising; low = lo; high = hi; arcs = arcs.now }) }
-        ensures accepted { IfOk result (λ _. refusal_of (record { nodes = n; source = s; sink = t; sense = Rising; low = lo; high = hi; arcs = arcs.now }) ≡ None) }
+        ensures given { IfOk result (λ net. net ≡ rising n s t lo hi arcs.now) }
+        ensures accepted { IfOk result (λ _. refusal_of (rising n s t lo hi arcs.now) ≡ None) }
         ensures refused { (bad : NetBad) → result ≡ Err bad → bad ≢ NetBad.NoMemory
-            → refusal_of (record { nodes = n; source = s; sink = t; sense = Rising; low = lo; high = hi; arcs = arcs.now }) ≡ Some bad }
+            → refusal_of (rising n s t lo hi arcs.now) ≡ Some bad }
     {
-        match first_refusal(n, s, t, &lo, &hi, arcs) {
-            Some(bad) => Err(bad),
-            None => match make(alloc, n, s, t, lo, hi, arcs) {
-                Ok(net) => Ok(net),
-                Err(_) => Err(NetBad::NoMemory),
-            },
+        if let Some(bad) = first_refusal(n, s, t, &lo, &hi, arcs) {
+            return Err(bad);
         }
+        Ok(make(alloc, n, s, t, lo, hi, arcs)?)
+    }
+
+    /// The rising network of numbers that are known to be one, within the limits. The arcs are handed over, and neither
+    /// judged nor copied.
+    pub fn from_arcs(
+        alloc: Global,
+        n: u32,
+        s: u32,
+        t: u32,
+        lo: Rat,
+        hi: Rat,
+        arcs: Vec<AffineArc>,
+    ) -> Result<Net, NoMemory>
+        requires { IsBuilt (rising n s t lo hi arcs.items) }
+        ensures { IfOk result (λ net. net ≡ rising n s t lo hi arcs.items) }
+    {
+        let ends = ends_of_arcs(alloc, arcs.as_slice())?;
+        let frame = Frame::from_ends(alloc, n, ends)?;
+        Ok(Net {
+            frame,
+            arcs,
+            s,
+            t,
+            lo,
+            hi,
+        })
     }
 
     /// The nodes and arcs, without capacities. What holds of every network is told here.
     pub fn frame(&self) -> &Frame
-        ensures frame { result.now ≡ graph_of self.now }
+        ensures frame { result.now ≡ digraph_of self.now }
         ensures built { IsBuilt self.now }
     {
         &self.frame
@@ -178,11 +202,24 @@ impl Net {
         requires inside { IsInInterval self.now at.now }
         requires places { length caps.old ≡ length self.now.arcs }
         ensures capacities { caps.new ≡ map (capacity_at at.now) self.now.arcs }
-        ensures bounded { IsBounded (graph_of self.now) caps.new }
+        ensures bounded { IsBounded (digraph_of self.now) caps.new }
     {
         let q = at.q();
         prove!(q >= 1);
         capacities(self.arcs.as_slice(), at, caps);
+    }
+
+    /// Whether the side is a cut: one truth value per node, true at the source and false at the sink.
+    pub fn is_cut(&self, side: &[bool]) -> bool
+        ensures { IsTrue result ↔ IsNetworkCut self.now side.now }
+    {
+        if side.len() != self.frame.nodes() as usize {
+            return false;
+        }
+        if !side[self.s as usize] {
+            return false;
+        }
+        !side[self.t as usize]
     }
 
     /// The line of a cut: the sums of `a` and of `b` over the arcs that leave it. `side` is indexed by node.

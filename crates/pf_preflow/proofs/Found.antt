@@ -4,10 +4,10 @@ use Rattle.std.specs.Prelude.{ℕ, ℤ, List}
 use Rattle.std.proofs.lemmas.Int.{ints}
 use Rattle.pf_model.specs.Cut.{FlowNetwork}
 use Rattle.pf_model.specs.Flow.{IsPreflow, IsGreatest}
-use Rattle.pf_model.specs.Graph.{Graph, network_of}
+use Rattle.pf_model.specs.Digraph.{Digraph, network_of}
 use Rattle.pf_frame.specs.Numbers.{IsBounded}
 
-pub bounded_of_greatest : (g : Graph) (caps flow : List ℤ) (s t : ℕ) → IsGreatest (network_of g caps s t) flow → IsBounded g caps → IsBounded g flow
+pub bounded_of_greatest : (g : Digraph) (caps flow : List ℤ) (s t : ℕ) → IsGreatest (network_of g caps s t) flow → IsBounded g caps → IsBounded g flow
 bounded_of_greatest g caps flow s t f b = record {
   full = f.flow_is.within.full;
   low = f.flow_is.within.low;

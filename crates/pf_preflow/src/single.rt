@@ -1,7 +1,7 @@
 // One greatest flow, for a caller that counts no steps.
 ghost use Rattle.std.specs.Prelude.{◌≡◌, ◌≢◌, ◌<◌, length, IfOk, OnErr};
 ghost use Rattle.pf_model.specs.Flow.{IsGreatest};
-ghost use Rattle.pf_model.specs.Graph.{network_of};
+ghost use Rattle.pf_model.specs.Digraph.{network_of};
 ghost use Rattle.pf_frame.specs.Numbers.{IsBounded};
 ghost use Rattle.pf_preflow.specs.Engine.{IsFor, KeepsEnds, network};
 

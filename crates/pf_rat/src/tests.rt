@@ -8,7 +8,7 @@ fn fractions_and_lines(rt: HostRuntime) {
     let zero = Rat::new(0, 7);
     assert!(rt; zero == Rat::new(0, 1));
     assert!(rt; half.cmp(&zero) == Ordering::Less);
-    assert!(rt; half.is_at_most(&zero) && half.is_at_most(&half) && !zero.is_at_most(&half));
+    assert!(rt; half < zero && half <= half && !(zero <= half) && half == half);
     // Cross products past 64 bits.
     let large = Rat::new(9444732965739290427391, 70368744177664);
     let larger = Rat::new(9444732965739290427392, 70368744177663);

@@ -1,6 +1,11 @@
 //! The curve of a monotone network.
 
-ghost use Rattle.pf_model.specs.CurveLaws.{CertificateImpliesCurve, LeastPartsAreCurve, PointsAreInside, CurveCovers, CurveIsShort, OneCurve, OneCurveInLowestTerms, PointOfGreatest};
+ghost use Rattle.pf_model.specs.CurveLaws.{CutsAreOfNetwork, CertificateImpliesCurve, LeastPartsAreCurve, PointsAreInside, CurveCovers, CurveIsShort, OneCurve, OneCurveInLowestTerms, PointOfGreatest};
+
+/// The cuts of a parametric network are those of the network that it is at any parameter.
+pub fn cuts_are_of_network()
+    ensures { CutsAreOfNetwork }
+{}
 
 /// What certifies a curve proves it: a few comparisons at its points stand for least cuts at every parameter.
 pub fn certificate_implies_curve()

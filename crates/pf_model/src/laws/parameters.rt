@@ -1,6 +1,6 @@
 //! Parameters and their order.
 
-ghost use Rattle.pf_model.specs.ParameterLaws.{OrderIsTotal, OrderIsTransitive, OrderIsAntisymmetric, LowestIsLowest, OnlyLowest};
+ghost use Rattle.pf_model.specs.ParameterLaws.{OrderIsTotal, OrderIsTransitive, OrderIsAntisymmetric, OrderIsCompared, LowestIsLowest, OnlyLowest};
 
 /// Of two parameters one is below the other or at most it, and the order is transitive and antisymmetric, where parameters
 /// are equal by their cross products.
@@ -8,6 +8,7 @@ pub fn order_is_an_order()
     ensures total { OrderIsTotal }
     ensures transitive { OrderIsTransitive }
     ensures antisymmetric { OrderIsAntisymmetric }
+    ensures compared { OrderIsCompared }
 {}
 
 /// Each parameter is equal to exactly one in lowest terms.

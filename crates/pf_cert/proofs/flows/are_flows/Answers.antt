@@ -4,7 +4,7 @@ use Rattle.pf_model.specs.Flow.{IsFlow}
 use Rattle.pf_model.specs.Network.{network_at}
 use Rattle.pf_model.specs.Curve.{point_at, flow_at}
 use Rattle.pf_frame.specs.Numbers.{IsBounded}
-use Rattle.pf_net.specs.Limits.{graph_of}
+use Rattle.pf_net.specs.Limits.{digraph_of}
 use Rattle.pf_cert.proofs.Places.{keeps_again, serves_on}
 use Rattle.pf_cert.proofs.Seen.{point_here, inside_here, flow_here, flow_there, bounded_here}
 use Rattle.pf_cert.proofs.flows.are_flows.Goals as goal
@@ -35,7 +35,7 @@ points-preserved c =
     record {
       each = below_more (λ k. IsFlow (network_at net (point_at net points k)) (flow_at flows k)) c.points.j c.points.invariant.each
           (flow_here net (point_at net points c.points.j) c.index-points-j.result c.flow.result.now (flow_at flows c.points.j) e c.flow.ensures (c.if-not-has_flow.ensures.exact.0 refl));
-      bounded = below_more (λ k. IsBounded (graph_of net) (flow_at flows k)) c.points.j c.points.invariant.bounded
+      bounded = below_more (λ k. IsBounded (digraph_of net) (flow_at flows k)) c.points.j c.points.invariant.bounded
           (bounded_here net c.flow.result.now (flow_at flows c.points.j) c.flow.ensures c.if-not-has_flow.ensures.bounded);
       places = keeps_again _ _ _ c.points.invariant.places c.has_flow.ensures.places;
     }

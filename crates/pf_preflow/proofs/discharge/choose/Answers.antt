@@ -1,5 +1,5 @@
 use Rattle.std.proofs.Common.{◌*◌, ◌<◌, arith}
-use Rattle.pf_model.specs.Graph.{network_of}
+use Rattle.pf_model.specs.Digraph.{network_of}
 use Rattle.pf_preflow.proofs.Relabel.{least_found}
 use Rattle.pf_preflow.proofs.Sending.{ready_lowest}
 use Rattle.pf_preflow.proofs.discharge.choose.Goals as goal

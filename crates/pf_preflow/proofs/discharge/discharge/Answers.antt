@@ -1,6 +1,6 @@
 use Rattle.std.proofs.Common.{◌<◌, to_z, of_z, arith}
 use Rattle.std.proofs.lemmas.Int.{ints}
-use Rattle.pf_model.specs.Graph.{network_of}
+use Rattle.pf_model.specs.Digraph.{network_of}
 use Rattle.pf_preflow.proofs.Counting.{counted_none}
 use Rattle.pf_preflow.proofs.Relabel.{finished, excess_fits}
 use Rattle.pf_preflow.proofs.Sending.{can_send, fewer, room_some, stepped, still_active}

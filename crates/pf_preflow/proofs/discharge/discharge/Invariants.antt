@@ -1,5 +1,5 @@
 use Rattle.std.proofs.Common.{◌≡◌, ℕ, ◌<◌, ◌≤◌}
-use Rattle.pf_model.specs.Graph.{network_of}
+use Rattle.pf_model.specs.Digraph.{network_of}
 use Rattle.pf_preflow.specs.Engine.{IsActiveAt}
 use Rattle.pf_preflow.specs.Labels.{HasCounted}
 use Rattle.pf_preflow.specs.State.{IsState, work}

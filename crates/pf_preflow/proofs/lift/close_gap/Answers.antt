@@ -1,5 +1,5 @@
 use Rattle.std.proofs.Common.{length, rules, arith}
-use Rattle.pf_model.specs.Graph.{network_of}
+use Rattle.pf_model.specs.Digraph.{network_of}
 use Rattle.pf_preflow.specs.Lift.{AreLiftedOver}
 use Rattle.pf_preflow.proofs.Lifting.{fresh_lifted, over_valid}
 use Rattle.pf_preflow.proofs.lift.close_gap.Goals as goal

@@ -1,5 +1,5 @@
 use Rattle.std.proofs.Common.{length, rules, arith}
-use Rattle.pf_model.specs.Graph.{network_of}
+use Rattle.pf_model.specs.Digraph.{network_of}
 use Rattle.pf_model.specs.Residual.{HasValidLabels}
 use Rattle.pf_preflow.proofs.Lifting.{fresh_lifted}
 use Rattle.pf_preflow.proofs.lift.relabel_all.Goals as goal
