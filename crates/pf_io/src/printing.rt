@@ -1,12 +1,13 @@
-// Pieces of lines: numbers, sides and rows of numbers. A line is printed as its first field, and then the rest: fields with
-// a space in front, and the line feed. No call takes memory.
-ghost use Rattle.std.specs.Prelude.{◌≡◌, [], ◌∷◌, map, false};
+// Lines of answers. Each begins with a word, and the numbers that it is known by: none, or the number of a cut, or two.
+// What follows is numbers, a fraction, a side or labels, each field with one space in front. No call takes memory.
+ghost use Rattle.std.specs.Prelude.{◌≡◌, ◌++◌, [], ◌∷◌, map, false};
 ghost use Rattle.std.specs.Fmt.{decimal, signed_decimal};
-ghost use Rattle.pf_text.specs.Spelling.{side_text, spaced, rest_of_line, row_line, numbered_line};
+ghost use Rattle.pf_text.specs.Spelling.{side_text, spaced, rest_of_line, head_text, row_line, fraction_line, side_line, label_line};
 ghost use Rattle.pf_io.specs.Printing.{Adds, is_spent};
 
 use crate::device::{Failed, Sink};
 use crate::printer::Printer;
+use pf_rat::Rat;
 
 /// A space, and the number.
 pub fn print_number<K: Sink>(out: &mut Printer<'_, K>, number: &i128) -> Result<(), Failed>
@@ -15,8 +16,16 @@ pub fn print_number<K: Sink>(out: &mut Printer<'_, K>, number: &i128) -> Result<
 {
     let value = *number;
     out.word(b" ")?;
-    out.num(value)?;
-    Ok(())
+    out.num(value)
+}
+
+/// A space, and a number that is not below 0.
+pub fn print_index<K: Sink>(out: &mut Printer<'_, K>, index: usize) -> Result<(), Failed>
+    requires { is_spent out.old ≡ false }
+    ensures { Adds out.old out.new (32 ∷ decimal index) result }
+{
+    out.word(b" ")?;
+    out.num(index as i128)
 }
 
 /// The numbers, each with a space in front.
@@ -26,6 +35,28 @@ pub fn print_numbers<K: Sink>(out: &mut Printer<'_, K>, numbers: &[i128]) -> Res
 {
     'items: for number in numbers {
         print_number(out, number)?;
+    }
+    Ok(())
+}
+
+// The numbers that a line is known by, each with a space in front.
+fn print_indices<K: Sink>(out: &mut Printer<'_, K>, indices: &[usize]) -> Result<(), Failed>
+    requires { is_spent out.old ≡ false }
+    ensures { Adds out.old out.new (spaced (map decimal indices.now)) result }
+{
+    'items: for index in indices {
+        print_index(out, *index)?;
+    }
+    Ok(())
+}
+
+// The labels, each with a space in front.
+fn print_label_fields<K: Sink>(out: &mut Printer<'_, K>, labels: &[u32]) -> Result<(), Failed>
+    requires { is_spent out.old ≡ false }
+    ensures { Adds out.old out.new (spaced (map decimal labels.now)) result }
+{
+    'items: for label in labels {
+        print_index(out, *label as usize)?;
     }
     Ok(())
 }
@@ -54,63 +85,135 @@ pub fn print_side<K: Sink>(out: &mut Printer<'_, K>, side: &[bool]) -> Result<()
     Ok(())
 }
 
+/// What a line begins with: its word, and the numbers that it is known by.
+pub fn print_head<K: Sink>(
+    out: &mut Printer<'_, K>,
+    word: &[u8],
+    indices: &[usize],
+) -> Result<(), Failed>
+    requires { is_spent out.old ≡ false }
+    ensures { Adds out.old out.new (head_text word.now indices.now) result }
+{
+    out.word(word)?;
+    print_indices(out, indices)
+}
+
 /// The rest of a line of numbers, each with a space in front, and the line feed.
 pub fn print_rest<K: Sink>(out: &mut Printer<'_, K>, numbers: &[i128]) -> Result<(), Failed>
     requires { is_spent out.old ≡ false }
     ensures { Adds out.old out.new (rest_of_line (map signed_decimal numbers.now)) result }
 {
     print_numbers(out, numbers)?;
-    out.word(b"\n")?;
-    Ok(())
+    out.word(b"\n")
 }
 
-/// The rest of a line that is a side.
-pub fn print_rest_side<K: Sink>(out: &mut Printer<'_, K>, side: &[bool]) -> Result<(), Failed>
+// The rest of a line that is a side.
+fn print_rest_side<K: Sink>(out: &mut Printer<'_, K>, side: &[bool]) -> Result<(), Failed>
     requires { is_spent out.old ≡ false }
     ensures { Adds out.old out.new (rest_of_line (side_text side.now ∷ [])) result }
 {
     out.word(b" ")?;
     print_side(out, side)?;
-    out.word(b"\n")?;
-    Ok(())
+    out.word(b"\n")
 }
 
-/// A space, and the number of a line.
-pub fn print_index<K: Sink>(out: &mut Printer<'_, K>, index: usize) -> Result<(), Failed>
+// The rest of a line of numbers and a side.
+fn print_rest_cut<K: Sink>(
+    out: &mut Printer<'_, K>,
+    numbers: &[i128],
+    side: &[bool],
+) -> Result<(), Failed>
     requires { is_spent out.old ≡ false }
-    ensures { Adds out.old out.new (32 ∷ decimal index) result }
+    ensures { Adds out.old out.new (rest_of_line (map signed_decimal numbers.now ++ (side_text side.now ∷ []))) result }
 {
-    out.word(b" ")?;
-    out.num(index as i128)?;
-    Ok(())
+    print_numbers(out, numbers)?;
+    print_rest_side(out, side)
 }
 
-/// A line of this word and the numbers.
+// The rest of a line of labels.
+fn print_rest_labels<K: Sink>(out: &mut Printer<'_, K>, labels: &[u32]) -> Result<(), Failed>
+    requires { is_spent out.old ≡ false }
+    ensures { Adds out.old out.new (rest_of_line (map decimal labels.now)) result }
+{
+    print_label_fields(out, labels)?;
+    out.word(b"\n")
+}
+
+// The two numbers of a fraction, each with a space in front.
+fn print_fraction<K: Sink>(out: &mut Printer<'_, K>, at: &Rat) -> Result<(), Failed>
+    requires { is_spent out.old ≡ false }
+    ensures { Adds out.old out.new (spaced (signed_decimal at.now.p ∷ signed_decimal at.now.q ∷ [])) result }
+{
+    print_numbers(out, &[at.p(), at.q()])
+}
+
+// The rest of a line of a fraction and numbers.
+fn print_rest_fraction<K: Sink>(
+    out: &mut Printer<'_, K>,
+    at: &Rat,
+    numbers: &[i128],
+) -> Result<(), Failed>
+    requires { is_spent out.old ≡ false }
+    ensures { Adds out.old out.new (rest_of_line (signed_decimal at.now.p ∷ signed_decimal at.now.q ∷ map signed_decimal numbers.now)) result }
+{
+    print_fraction(out, at)?;
+    print_rest(out, numbers)
+}
+
+/// A line of numbers, as `k K`, `f F1 .. FM`, `f J F1 .. FM` and `r J R X1 .. XM`.
 pub fn print_row<K: Sink>(
     out: &mut Printer<'_, K>,
     word: &[u8],
+    indices: &[usize],
     numbers: &[i128],
 ) -> Result<(), Failed>
     requires { is_spent out.old ≡ false }
-    ensures { Adds out.old out.new (row_line word.now numbers.now) result }
+    ensures { Adds out.old out.new (row_line word.now indices.now numbers.now) result }
 {
-    out.word(word)?;
-    print_rest(out, numbers)?;
-    Ok(())
+    print_head(out, word, indices)?;
+    print_rest(out, numbers)
 }
 
-/// A line of this word, this number, and the numbers.
-pub fn print_numbered_line<K: Sink>(
+/// A line of a fraction, and numbers behind it, as `d P Q`, `x ID P Q` and `b J P Q V`.
+pub fn print_fraction_row<K: Sink>(
     out: &mut Printer<'_, K>,
     word: &[u8],
-    index: usize,
+    indices: &[usize],
+    at: &Rat,
     numbers: &[i128],
 ) -> Result<(), Failed>
     requires { is_spent out.old ≡ false }
-    ensures { Adds out.old out.new (numbered_line word.now index numbers.now) result }
+    ensures { Adds out.old out.new (fraction_line word.now indices.now at.now numbers.now) result }
 {
-    out.word(word)?;
-    print_index(out, index)?;
-    print_rest(out, numbers)?;
-    Ok(())
+    print_head(out, word, indices)?;
+    print_rest_fraction(out, at, numbers)
+}
+
+/// A line of numbers, and a side behind them, as `s SIDE`, `s J SIDE` and `s J A B SIDE`.
+pub fn print_side_row<K: Sink>(
+    out: &mut Printer<'_, K>,
+    word: &[u8],
+    indices: &[usize],
+    numbers: &[i128],
+    side: &[bool],
+) -> Result<(), Failed>
+    requires { is_spent out.old ≡ false }
+    ensures { Adds out.old out.new (side_line word.now indices.now numbers.now side.now) result }
+{
+    print_head(out, word, indices)?;
+    print_rest_cut(out, numbers, side)
+}
+
+/// A line of labels, as `s L1 .. LN` and `s J L1 .. LN`.
+pub fn print_labels<K: Sink>(
+    out: &mut Printer<'_, K>,
+    word: &[u8],
+    indices: &[usize],
+    labels: &[u32],
+) -> Result<(), Failed>
+    requires { is_spent out.old ≡ false }
+    ensures { Adds out.old out.new (label_line word.now indices.now labels.now) result }
+{
+    print_head(out, word, indices)?;
+    print_rest_labels(out, labels)
 }

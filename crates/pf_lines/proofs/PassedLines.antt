@@ -1,12 +1,15 @@
 -- Lines that were taken, one after another, and the line that decided.
-use Rattle.std.proofs.Common.{◌≡◌, ℕ, Bool, true, false, not, ◌&&◌, List, [], ◌∷◌, ◌++◌, Option, Some, None, Result, Ok, Err, refl, sym, ap, ◌∙◌, append_assoc, subst, ◌+◌}
+use Rattle.std.proofs.Common.{◌≡◌, ℕ, Bool, true, false, not, ◌&&◌, List, [], ◌∷◌, ◌++◌, Option, Some, None, Result, Ok, Err, refl, sym, ap, ◌∙◌, append_assoc, subst, ◌+◌, ◌<◌, ◌≤◌}
 use Rattle.std.specs.Prelude.{ℤ, IfErr, ◌==◌}
 use Rattle.pf_text.specs.declared.RuleKind.{RuleKind}
 use Rattle.pf_text.specs.declared.TextBad.{TextBad}
-use Rattle.pf_text.specs.declared.TextBad.TheVariants.{Syntax, Range, Count, WrongKind, Rule, NoEnd}
+use Rattle.pf_text.specs.declared.TextBad.TheVariants.{Syntax, Range, Count, WrongKind, Rule}
 use Rattle.pf_text.specs.Lines.{Line}
 use Rattle.pf_text.specs.Kinds.{Kind, State, Match, Accepted, are_in_range, match_of, is_wrong_kind, and_then, refuse_if, rule_at, state_of_header, state_of_match, header, step, end_line, is_end, body, problem_of_lines}
+use Rattle.std.proofs.lemmas.Bool.{le-ltb}
 use Rattle.pf_text.proofs.LinesLemmas.{given_line}
+use Rattle.pf_text.proofs.KindsLemmas.{end_count}
+use Rattle.pf_lines.specs.Gathering.{ComesFromLines, judged_at}
 use Rattle.pf_lines.specs.declared.errors.ReadBad.{ReadBad}
 use Rattle.pf_lines.specs.declared.errors.ReadBad.TheVariants.{Text, NoMemory}
 use Rattle.pf_lines.specs.Places.{Place, lines_left, behind}
@@ -20,6 +23,10 @@ passed_none place = record { passed = []; lines = refl; place = refl; front = []
 behind_all-push : (place : Place) (lines : List Line) (line : Line) → behind_all place (lines ++ line ∷ []) ≡ behind line
 behind_all-push place [] line = refl
 behind_all-push place (first ∷ later) line = behind_all-push (behind first) later line
+
+behind_all-append : (place : Place) (lines others : List Line) → behind_all place (lines ++ others) ≡ behind_all (behind_all place lines) others
+behind_all-append place [] others = refl
+behind_all-append place (first ∷ later) others = behind_all-append (behind first) later others
 
 pub passed_more : (before middle after : Place) (line : Line) → HasPassed before middle → lines_left middle ≡ line ∷ lines_left after → after ≡ behind line → HasPassed before after
 passed_more before middle after line has e is =
@@ -86,38 +93,64 @@ pub behind_if_refused : {X Y : Type 0} (judged : Result Y TextBad) (value : X �
 behind_if_refused judged value (Ok x) line place e told is = tt
 behind_if_refused judged value (Err answer) line place e told is = behind_refusal judged value answer line place e told is
 
+-- lines that were taken, and then others
+pub passed_then : (before middle after : Place) → HasPassed before middle → HasPassed middle after → HasPassed before after
+passed_then before middle after first later = record {
+  passed = first.passed ++ later.passed;
+  lines = first.lines ∙ ap (λ (lines : List Line). first.passed ++ lines) later.lines ∙ sym (append_assoc first.passed later.passed (lines_left after));
+  place = later.place ∙ ap (λ (place : Place). behind_all place later.passed) first.place ∙ sym (behind_all-append before first.passed later.passed);
+  front = first.front ++ later.front;
+  rest = first.rest ∙ ap (λ (bytes : List ℕ). first.front ++ bytes) later.rest ∙ sym (append_assoc first.front later.front after.rest);
+}
+
 -- ---- what was judged of all lines
-
-pub no_line : {G P : Type 0} (kind : Kind G P) (before : Place) → lines_left before ≡ [] → problem_of_lines kind (lines_left before) ≡ Err NoEnd
-no_line kind before none = rw none refl
-
-pub begun : {G P : Type 0} (kind : Kind G P) (before after : Place) (line : Line) (state : State G) → lines_left before ≡ line ∷ lines_left after → header kind line ≡ Ok state
-    → problem_of_lines kind (lines_left before) ≡ body kind state (lines_left after)
-begun kind before after line state e ok = rw (e, ok) refl
-
-pub refused_first : {X G P : Type 0} (kind : Kind G P) (before after : Place) (line : Line) (value : X → State G) (other : P → Accepted P) (answer : ReadBad)
-    → lines_left before ≡ line ∷ lines_left after → Agrees (header kind line) value (Err answer) → Agrees (problem_of_lines kind (lines_left before)) other (Err answer)
-refused_first kind before after line value other (Text bad) e err = rw (e, err) refl
-refused_first kind before after line value other NoMemory e err = tt
 
 pub stepped : {G P : Type 0} (kind : Kind G P) (before after : Place) (line : Line) (state next : State G) → lines_left before ≡ line ∷ lines_left after → is_end line.fields ≡ false → step kind state line ≡ Ok next
     → body kind state (lines_left before) ≡ body kind next (lines_left after)
 stepped kind before after line state next e goes ok = rw (e, goes, ok) refl
 
-pub refused_later : {X G P : Type 0} (kind : Kind G P) (problem : Result (Accepted P) TextBad) (before after : Place) (line : Line) (state : State G) (value : X → State G) (other : P → Accepted P) (answer : ReadBad)
-    → problem ≡ body kind state (lines_left before) → lines_left before ≡ line ∷ lines_left after → is_end line.fields ≡ false → Agrees (step kind state line) value (Err answer)
-    → Agrees problem other (Err answer)
-refused_later kind problem before after line state value other (Text bad) same e goes err = rw (same, e, goes, err) refl
-refused_later kind problem before after line state value other NoMemory same e goes err = tt
+ended : {G P : Type 0} (kind : Kind G P) (before after : Place) (line : Line) (state : State G) → lines_left before ≡ line ∷ lines_left after → is_end line.fields ≡ true
+    → body kind state (lines_left before) ≡ end_line kind state line
+ended kind before after line state e ends = rw (e, ends) refl
 
-pub ended : {G P : Type 0} (kind : Kind G P) (problem : Result (Accepted P) TextBad) (before after : Place) (line : Line) (state : State G) → problem ≡ body kind state (lines_left before)
-    → lines_left before ≡ line ∷ lines_left after → is_end line.fields ≡ true → problem ≡ end_line kind state line
-ended kind problem before after line state same e ends = rw (same, e, ends) refl
+-- the line `end` comes too early
+pub too_few : {G P : Type 0} (kind : Kind G P) (before after : Place) (line : Line) (state : State G) (most n : ℕ) → lines_left before ≡ line ∷ lines_left after → is_end line.fields ≡ true
+    → most ≡ kind.count state.header_numbers → state.counted_lines < most → n ≡ line.number → body kind state (lines_left before) ≡ Err (Count n)
+too_few kind before after line state most n e ends is few same =
+    ended kind before after line state e ends ∙ end_count kind state line (subst (λ m. state.counted_lines < m) is few) ∙ ap (λ m. Err (Count m)) (sym same)
 
-pub end_agrees_behind : {G P : Type 0} (kind : Kind G P) (problem : Result (Accepted P) TextBad) (state : State G) (line : Line) (after : Place) (result : Result P ReadBad) → problem ≡ end_line kind state line → after ≡ behind line
-    → Agrees (end_line kind state line) (λ problem. record { problem = problem; rest = line.rest; line = line.number }) result
-    → Agrees problem (λ problem. record { problem = problem; rest = after.rest; line = after.number }) result
-end_agrees_behind kind problem state line after result same is e = rw (same, is) e
+-- the line `end` makes the problem
+pub made_at_end : {G P : Type 0} (kind : Kind G P) (before after : Place) (line : Line) (state : State G) (most : ℕ) → lines_left before ≡ line ∷ lines_left after → is_end line.fields ≡ true
+    → most ≡ kind.count state.header_numbers → most ≤ state.counted_lines → after ≡ behind line
+    → body kind state (lines_left before) ≡ judged_at after (kind.problem state.header_numbers state.given)
+unfolding end_line
+made_at_end kind before after line state most e ends is all place =
+    ended kind before after line state e ends ∙ rw (le-ltb _ _ (subst (λ m. m ≤ state.counted_lines) is all), place) refl
 
-pub without_end : {G P : Type 0} (kind : Kind G P) (problem : Result (Accepted P) TextBad) (before : Place) (state : State G) → problem ≡ body kind state (lines_left before) → lines_left before ≡ [] → problem ≡ Err NoEnd
-without_end kind problem before state same none = rw (same, none) refl
+-- what the header begins, line by line
+pub begun : {G P : Type 0} (kind : Kind G P) (before after : Place) (line : Line) (state : State G) → lines_left before ≡ line ∷ lines_left after → header kind line ≡ Ok state
+    → problem_of_lines kind (lines_left before) ≡ body kind state (lines_left after)
+begun kind before after line state e ok = rw (e, ok) refl
+
+pub refused_header : {G P : Type 0} (kind : Kind G P) (before after : Place) (line : Line) (bad : TextBad) → lines_left before ≡ line ∷ lines_left after → header kind line ≡ Err bad
+    → problem_of_lines kind (lines_left before) ≡ Err bad
+refused_header kind before after line bad e err = rw (e, err) refl
+
+-- ---- the line `end` that decided
+
+-- where lines come to this line `end`, they give the problem of what was given
+pub comes_from_lines : {G P : Type 0} (kind : Kind G P) (lines : List Line) (place : Place) (numbers : List ℤ) (given : G)
+    → problem_of_lines kind lines ≡ judged_at place (kind.problem numbers given) → ComesFromLines kind numbers given
+comes_from_lines kind lines place numbers given e = λ problem made. record {
+  lines = lines;
+  read = record { problem = problem; rest = place.rest; line = place.number };
+  judged = e ∙ ap (judged_at place) made;
+  problem_is = refl;
+}
+
+-- a rule that is broken at the line `end` is that of this line
+pub refused_at_end : {X P : Type 0} (place : Place) (made : Result P RuleKind) (value : X → Accepted P) (result : Result X ReadBad) → Agrees (judged_at place made) value result
+    → IfErr result (λ bad. IsBehindRefusal bad place)
+refused_at_end place made value (Ok x) e = tt
+refused_at_end place made value (Err (Text bad)) e = rw (by_rule place.number made (λ problem. record { problem = problem; rest = place.rest; line = place.number }) bad e) refl
+refused_at_end place made value (Err NoMemory) e = tt

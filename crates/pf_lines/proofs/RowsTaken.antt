@@ -1,144 +1,108 @@
--- Rows of numbers, taken from the front of a text one number after another.
-use Rattle.std.proofs.Common.{◌≡◌, ℕ, ◌+◌, ◌<◌, ◌≤◌, List, [], ◌∷◌, ◌++◌, length, Result, Ok, Err, refl, sym, ap, ◌∙◌, append_assoc, arith}
-use Rattle.std.specs.Prelude.{ℤ, ◌≤ℤ◌, All}
+-- Lines of numbers, sides and fractions, taken from the front of a text piece by piece.
+use Rattle.std.proofs.Common.{◌≡◌, ℕ, ◌+◌, ◌<◌, List, [], ◌∷◌, ◌++◌, length, map, drop, get_or, add-one, Bool, refl, sym, ap, ◌∙◌, append_assoc}
+use Rattle.std.specs.Prelude.{ℤ}
 use Rattle.std.specs.Fmt.{decimal, signed_decimal}
-use Rattle.std.proofs.lemmas.List.{append-nil, length-append}
-use Rattle.std.proofs.lemmas.List.Elements.{All-nil, All-head, All-tail, All-push, All-same}
-use Rattle.pf_text.specs.Spelling.{numbers_text, numbered_line}
-use Rattle.pf_text.proofs.SpellingLemmas.{numbers_text-append, number_text, numbered_line_is}
-use Rattle.pf_lines.specs.declared.errors.AnswerBad.{AnswerBad}
-use Rattle.pf_lines.specs.declared.errors.AnswerBad.TheVariants.{NotText, NoMemory}
-use Rattle.pf_lines.specs.Taking.{Takes, Passes, Stops, IsBetween, IsRow}
+use Rattle.std.proofs.lemmas.List.{append-nil}
+use Rattle.std.proofs.Math.Seq.{drop-cons}
+use Rattle.pf_model.specs.Fraction.{Fraction}
+use Rattle.pf_text.specs.Spelling.{line, spaced, rest_of_line, head, head_text, side_text, numbers_text, fraction_text}
+use Rattle.pf_text.proofs.SpellingLemmas.{head_then, line_then}
+use Rattle.pf_lines.specs.Taking.{Stops, IsBetween, IsRow}
+use Rattle.pf_lines.specs.declared.taking.Valued.{Valued}
+use Rattle.pf_lines.proofs.ItemsTaken.{Items, Stand}
 
--- ---- what is refused although it stands there is refused for want of memory
+-- ---- what is taken item by item
 
-pub only_memory : {X : Type 0} (x : X) (rest left : List ℕ) (bad : AnswerBad) → Takes x rest (Err bad) left → bad ≡ NoMemory
-only_memory x rest left NotText h = absurd h
-only_memory x rest left NoMemory h = refl
-
-pub only_memory_passes : (rest left : List ℕ) (bad : AnswerBad) → Passes rest (Err bad) left → bad ≡ NoMemory
-only_memory_passes rest left NotText h = absurd h
-only_memory_passes rest left NoMemory h = refl
-
-pub takes_nothing : {X : Type 0} (x : X) (rest left : List ℕ) (result : Result X AnswerBad) (bad : AnswerBad) → result ≡ Err bad → bad ≡ NoMemory → Takes x rest result left
-takes_nothing x rest left (Ok y) bad e memory = absurd cc
-takes_nothing x rest left (Err NotText) bad e memory = absurd cc
-takes_nothing x rest left (Err NoMemory) bad e memory = tt
-
-pub not_refused : {X : Type 0} (result : Result X AnswerBad) (bad : AnswerBad) → result ≡ Err bad → bad ≡ NoMemory → result ≡ Err NotText → ⊥
-not_refused result bad e memory refused = absurd cc
-
--- ---- lists
-
-pub of_all : {X : Type 0} (P : X → Type 0) (front : List X) (x : X) (later : List X) → All P (front ++ x ∷ later) → P x
-of_all P [] x later h = All-head P x later h
-of_all P (y ∷ front) x later h = of_all P front x later (All-tail P y (front ++ x ∷ later) h)
-
-none_later : {X : Type 0} (got whole others : List X) → whole ≡ got ++ others → length whole ≤ length got → others ≡ []
-none_later got whole [] split long = refl
-none_later got whole (x ∷ others) split long = absurd (let n = ap length split in omega (arith, n, long, length-append got (x ∷ others)))
-
--- what was taken stands in front of a list, and the text of its others in front of what is left
-pub record IsFront {X : Type 0} (text : List X → List ℕ) (got whole : List X) (now rest : List ℕ) : Type 0 where
-  pub others : List X
-  pub split : whole ≡ got ++ others
-  pub left : now ≡ text others ++ rest
-
-pub front_is_all : {X : Type 0} (text : List X → List ℕ) (got whole : List X) (now rest : List ℕ) → text [] ≡ [] → length whole ≤ length got → IsFront text got whole now rest → (got ≡ whole) × (now ≡ rest)
-front_is_all text got whole now rest nothing long f =
-    let none = none_later got whole f.others f.split long in
-    (sym (append-nil got) ∙ ap (λ xs. got ++ xs) (sym none) ∙ sym f.split, f.left ∙ ap (λ xs. text xs ++ rest) none ∙ ap (λ bytes. bytes ++ rest) nothing)
-
--- ---- the numbers of a row
-
-pub stops_numbers : (numbers : List ℤ) (rest : List ℕ) → Stops rest → Stops (numbers_text numbers ++ rest)
-stops_numbers [] rest stops = stops
-stops_numbers (x ∷ numbers) rest stops = refl
-
-pub record HasNumbers (width : ℕ) (min max : ℤ) (old now : List ℕ) (i : ℕ) (got : List ℤ) : Type 0 where
-  pub count : length got ≡ i
-  pub taken : old ≡ numbers_text got ++ now
-  pub sizes : All (IsBetween min max) got
-  pub front : (numbers : List ℤ) (rest : List ℕ) → IsRow width min max numbers → Stops rest → old ≡ numbers_text numbers ++ rest → IsFront numbers_text got numbers now rest
-
-pub numbers_begin : (width : ℕ) (min max : ℤ) (old : List ℕ) → HasNumbers width min max old old 0 []
-numbers_begin width min max old = record {
-  count = refl;
-  taken = refl;
-  sizes = All-nil (IsBetween min max);
-  front = λ numbers rest row stops e. record { others = numbers; split = refl; left = e };
+-- numbers, each with a space in front
+abbrev pub number_items : ℤ → ℤ → Items ℤ
+number_items min max = record {
+  text = λ j numbers. numbers_text numbers;
+  item = λ j number. 32 ∷ signed_decimal number;
+  none = λ j. refl;
+  more = λ j number numbers. refl;
+  Is = IsBetween min max;
+  MayFollow = Stops;
+  follows = λ j number rest. refl;
 }
 
--- the next number of a row whose text stands there
-record IsNext (min max : ℤ) (now rest : List ℕ) (got numbers : List ℤ) : Type 0 where
-  pub number : ℤ
-  pub later : List ℤ
-  pub split : numbers ≡ (got ++ number ∷ []) ++ later
-  pub size : IsBetween min max number
-  pub left : now ≡ (32 ∷ signed_decimal number) ++ (numbers_text later ++ rest)
-  pub stops : Stops (numbers_text later ++ rest)
+pub numbers_stand : (width : ℕ) (min max : ℤ) (old : List ℕ) (numbers : List ℤ) (rest : List ℕ) → IsRow width min max numbers → Stops rest → old ≡ numbers_text numbers ++ rest
+    → Stand (number_items min max) width old numbers rest
+numbers_stand width min max old numbers rest row stops there = record { full = row.full; each = row.each; behind = stops; text = there }
 
-next_of : (width : ℕ) (min max : ℤ) (now rest : List ℕ) (got numbers others : List ℤ) → length got < width → IsRow width min max numbers → Stops rest → numbers ≡ got ++ others → now ≡ numbers_text others ++ rest
-    → IsNext min max now rest got numbers
-next_of width min max now rest got numbers [] low row stops split left = absurd (let n = ap length split in omega (arith, n, low, row.full, length-append got []))
-next_of width min max now rest got numbers (x ∷ later) low row stops split left = record {
-  number = x;
-  later = later;
-  split = split ∙ sym (append_assoc got (x ∷ []) later);
-  size = of_all (IsBetween min max) got x later (All-same (IsBetween min max) (got ++ x ∷ later) numbers (sym split) row.each);
-  left = left ∙ append_assoc (32 ∷ signed_decimal x) (numbers_text later) rest;
-  stops = stops_numbers later rest stops;
+-- the nodes of a side
+abbrev pub side_items : Items Bool
+side_items = record {
+  text = λ j side. side_text side;
+  item = λ j inside. side_text (inside ∷ []);
+  none = λ j. refl;
+  more = λ j inside side. refl;
+  Is = λ inside. Unit {0};
+  MayFollow = λ rest. Unit {0};
+  follows = λ j inside rest. tt;
 }
 
-next : (width : ℕ) (min max : ℤ) (old now rest : List ℕ) (i : ℕ) (got numbers : List ℤ) → HasNumbers width min max old now i got → i < width → IsRow width min max numbers → Stops rest → old ≡ numbers_text numbers ++ rest
-    → IsNext min max now rest got numbers
-next width min max old now rest i got numbers p low row stops e =
-    let f = p.front numbers rest row stops e in
-    next_of width min max now rest got numbers f.others (omega (arith, p.count, low)) row stops f.split f.left
+pub side_stands : (nodes : ℕ) (old : List ℕ) (side : List Bool) (rest : List ℕ) → length side ≡ nodes → old ≡ side_text side ++ rest → Stand side_items nodes old side rest
+side_stands nodes old side rest full there = record { full = full; each = λ i other low. tt; behind = tt; text = there }
 
-pub number_taken : (width : ℕ) (min max : ℤ) (old now new : List ℕ) (i : ℕ) (got : List ℤ) (x : ℤ) → HasNumbers width min max old now i got → i < width
-    → now ≡ (32 ∷ signed_decimal x) ++ new → IsBetween min max x
-    → ((n : ℤ) (rest : List ℕ) → min ≤ℤ n → n ≤ℤ max → Stops rest → now ≡ (32 ∷ signed_decimal n) ++ rest → (x ≡ n) × (new ≡ rest))
-    → HasNumbers width min max old new (i + 1) (got ++ x ∷ [])
-number_taken width min max old now new i got x p low e size found = record {
-  count = omega (arith, p.count, length-append got (x ∷ []));
-  taken =
-      p.taken ∙ ap (λ (t : List ℕ). numbers_text got ++ t) e ∙ sym (append_assoc (numbers_text got) (32 ∷ signed_decimal x) new)
-      ∙ ap (λ (t : List ℕ). t ++ new) (ap (λ (t : List ℕ). numbers_text got ++ t) (sym (number_text x)) ∙ sym (numbers_text-append got (x ∷ [])));
-  sizes = All-push (IsBetween min max) got x p.sizes size;
-  front = λ numbers rest row stops there.
-      let t = next width min max old now rest i got numbers p low row stops there in
-      let f = found t.number (numbers_text t.later ++ rest) t.size.low t.size.high t.stops t.left in
-      record { others = t.later; split = t.split ∙ ap (λ (y : ℤ). (got ++ y ∷ []) ++ t.later) (sym f.0); left = f.1 };
-}
+-- ---- the head of a line
 
-pub number_refused : (width : ℕ) (min max : ℤ) (old now new : List ℕ) (i : ℕ) (got : List ℤ) (bad : AnswerBad) → HasNumbers width min max old now i got → i < width
-    → ((n : ℤ) (rest : List ℕ) → min ≤ℤ n → n ≤ℤ max → Stops rest → now ≡ (32 ∷ signed_decimal n) ++ rest → Takes n rest (Err bad) new)
-    → (numbers : List ℤ) (rest : List ℕ) → IsRow width min max numbers → Stops rest → old ≡ numbers_text numbers ++ rest → bad ≡ NoMemory
-number_refused width min max old now new i got bad p low found numbers rest row stops there =
-    let t = next width min max old now rest i got numbers p low row stops there in
-    only_memory t.number (numbers_text t.later ++ rest) new bad (found t.number (numbers_text t.later ++ rest) t.size.low t.size.high t.stops t.left)
+pub stops_fields : (fields : List (List ℕ)) (rest : List ℕ) → Stops rest → Stops (spaced fields ++ rest)
+stops_fields [] rest stops = stops
+stops_fields (field ∷ fields) rest stops = refl
 
-pub numbers_shape : (width : ℕ) (min max : ℤ) (old now : List ℕ) (i : ℕ) (got : List ℤ) → HasNumbers width min max old now i got → i ≡ width → IsRow width min max got
-numbers_shape width min max old now i got p all = record { full = p.count ∙ all; each = p.sizes }
+-- the index at a place, and those behind it
+pub index_then : (indices : List ℕ) (i other : ℕ) (rest : List ℕ) → i < length indices
+    → spaced (map decimal (drop i indices)) ++ rest ≡ (32 ∷ decimal (get_or indices i other)) ++ (spaced (map decimal (drop (i + 1) indices)) ++ rest)
+index_then indices i other rest low =
+    let next : drop i indices ≡ get_or indices i other ∷ drop (i + 1) indices = rw add-one (drop-cons indices i other low) in
+    ap (λ (xs : List ℕ). spaced (map decimal xs) ++ rest) next ∙ append_assoc (32 ∷ decimal (get_or indices i other)) (spaced (map decimal (drop (i + 1) indices))) rest
 
-pub numbers_end : (width : ℕ) (min max : ℤ) (old now : List ℕ) (i : ℕ) (got : List ℤ) → HasNumbers width min max old now i got → i ≡ width
-    → (numbers : List ℤ) (rest : List ℕ) → IsRow width min max numbers → Stops rest → old ≡ numbers_text numbers ++ rest → (got ≡ numbers) × (now ≡ rest)
-numbers_end width min max old now i got p all numbers rest row stops there =
-    front_is_all numbers_text got numbers now rest refl (omega (arith, p.count, all, row.full)) (p.front numbers rest row stops there)
+-- a line is its head, and the rest
+pub line_rest : (word indices : List ℕ) (fields : List (List ℕ)) (rest : List ℕ) → line (head word indices ++ fields) ++ rest ≡ head_text word indices ++ (rest_of_line fields ++ rest)
+line_rest word indices fields rest = ap (λ (t : List ℕ). t ++ rest) (sym (head_then word indices fields)) ∙ append_assoc (head_text word indices) (rest_of_line fields) rest
 
--- ---- a numbered line
+-- what stands behind the head of a line
+pub behind_head : (word indices : List ℕ) (fields : List (List ℕ)) (rest t0 t1 : List ℕ) → ((r : List ℕ) → Stops r → t0 ≡ head_text word indices ++ r → t1 ≡ r)
+    → t0 ≡ line (head word indices ++ fields) ++ rest → t1 ≡ spaced fields ++ (10 ∷ rest)
+behind_head word indices fields rest t0 t1 found there = found (spaced fields ++ (10 ∷ rest)) (stops_fields fields (10 ∷ rest) refl) (there ∙ line_then word indices fields rest)
 
--- what stands behind the number of the line
-pub line_numbers : (name : List ℕ) (index : ℕ) (numbers : List ℤ) (rest t0 t1 t2 : List ℕ) → ((r : List ℕ) → t0 ≡ name ++ r → t1 ≡ r) → ((r : List ℕ) → Stops r → t1 ≡ (32 ∷ decimal index) ++ r → t2 ≡ r)
-    → t0 ≡ numbered_line name index numbers ++ rest → t2 ≡ numbers_text numbers ++ (10 ∷ rest)
-line_numbers name index numbers rest t0 t1 t2 word number e =
-    let tail = numbers_text numbers ++ (10 ∷ rest) in
-    number tail (stops_numbers numbers (10 ∷ rest) refl) (word ((32 ∷ decimal index) ++ tail) (e ∙ numbered_line_is name index numbers rest))
+-- a line that was taken: its head, its fields and the line feed
+pub line_taken : (word indices : List ℕ) (fields : List (List ℕ)) (t0 t1 t2 t3 : List ℕ) → t0 ≡ head_text word indices ++ t1 → t1 ≡ spaced fields ++ t2 → t2 ≡ (10 ∷ []) ++ t3
+    → t0 ≡ line (head word indices ++ fields) ++ t3
+line_taken word indices fields t0 t1 t2 t3 first later feed =
+    first ∙ ap (λ (t : List ℕ). head_text word indices ++ t) (later ∙ ap (λ (t : List ℕ). spaced fields ++ t) feed) ∙ sym (line_then word indices fields t3)
 
-pub line_taken : (name : List ℕ) (index : ℕ) (numbers : List ℤ) (t0 t1 t2 t3 t4 : List ℕ) → t0 ≡ name ++ t1 → t1 ≡ (32 ∷ decimal index) ++ t2 → t2 ≡ numbers_text numbers ++ t3 → t3 ≡ (10 ∷ []) ++ t4
-    → t0 ≡ numbered_line name index numbers ++ t4
-line_taken name index numbers t0 t1 t2 t3 t4 word number row feed =
-    word
-    ∙ ap (λ (t : List ℕ). name ++ t) (number ∙ ap (λ (t : List ℕ). (32 ∷ decimal index) ++ t) (row ∙ ap (λ (t : List ℕ). numbers_text numbers ++ t) feed))
-    ∙ sym (numbered_line_is name index numbers t4)
+-- ---- fractions, values and sides as fields
+
+pub fraction_fields : (at : Fraction) (rest : List ℕ) → spaced (signed_decimal at.p ∷ signed_decimal at.q ∷ []) ++ rest ≡ fraction_text at ++ rest
+fraction_fields at rest = by (signed_decimal at.p) (signed_decimal at.q)
+  where
+    by : (p q : List ℕ) → ((32 ∷ p) ++ ((32 ∷ q) ++ [])) ++ rest ≡ ((32 ∷ p) ++ (32 ∷ q)) ++ rest
+    by p q = ap (λ (t : List ℕ). ((32 ∷ p) ++ t) ++ rest) (append-nil (32 ∷ q))
+
+pub valued_fields : (at : Fraction) (value : ℤ) (rest : List ℕ)
+    → spaced (signed_decimal at.p ∷ signed_decimal at.q ∷ signed_decimal value ∷ []) ++ rest ≡ fraction_text at ++ ((32 ∷ signed_decimal value) ++ rest)
+valued_fields at value rest = by (signed_decimal at.p) (signed_decimal at.q) (signed_decimal value)
+  where
+    by : (p q v : List ℕ) → ((32 ∷ p) ++ ((32 ∷ q) ++ ((32 ∷ v) ++ []))) ++ rest ≡ ((32 ∷ p) ++ (32 ∷ q)) ++ ((32 ∷ v) ++ rest)
+    by p q v = ap (λ (t : List ℕ). ((32 ∷ p) ++ ((32 ∷ q) ++ t)) ++ rest) (append-nil (32 ∷ v)) ∙ simp append_assoc
+
+abbrev valued_of : Fraction → ℤ → Valued
+valued_of at value = record { at = at; value = value }
+
+of_parts : (at at' : Fraction) (value value' : ℤ) → at ≡ at' → value ≡ value' → valued_of at value ≡ valued_of at' value'
+of_parts at at' value value' e f = cc
+
+pub same_point : (at : Fraction) (value : ℤ) (point : Valued) → at ≡ point.at → value ≡ point.value → ◌≡◌ {A = Valued} (record { at = at; value = value }) point
+same_point at value point e f = of_parts at point.at value point.value e f
+
+-- the rest of a line that is a side
+pub side_parts : (side : List Bool) (rest : List ℕ) → rest_of_line (side_text side ∷ []) ++ rest ≡ (32 ∷ []) ++ (side_text side ++ (10 ∷ rest))
+side_parts side rest = ap (λ (t : List ℕ). 32 ∷ t) (append_assoc (side_text side) (10 ∷ []) rest)
+
+-- the parts of the line of a count
+pub count_parts : (word : List ℕ) (count : ℕ) (rest : List ℕ) → line (head word (count ∷ []) ++ []) ++ rest ≡ word ++ ((32 ∷ decimal count) ++ (10 ∷ rest))
+count_parts word count rest = line_then word (count ∷ []) [] rest ∙ by word (decimal count)
+  where
+    by : (w d : List ℕ) → (w ++ ((32 ∷ d) ++ [])) ++ (10 ∷ rest) ≡ w ++ ((32 ∷ d) ++ (10 ∷ rest))
+    by w d = ap (λ (t : List ℕ). (w ++ t) ++ (10 ∷ rest)) (append-nil (32 ∷ d)) ∙ append_assoc w (32 ∷ d) (10 ∷ rest)

@@ -1,8 +1,11 @@
 -- What a call answers that takes a piece of a text from its front.
-use Rattle.std.specs.Prelude.{◌≡◌, ℕ, ℤ, ◌≤ℤ◌, false, List, [], ◌∷◌, length, All, Result, Ok, Err}
+use Rattle.std.specs.Prelude.{◌≡◌, ℕ, ℤ, ◌≤ℤ◌, ◌^◌, false, List, [], ◌∷◌, length, All, Result, Ok, Err}
+use Rattle.pf_model.specs.Answer.{IsFractionShape, IsWithinSize}
 use Rattle.pf_text.specs.Numbers.{is_digit}
+use Rattle.pf_text.specs.Spelling.{fraction_line}
 use Rattle.pf_lines.specs.declared.errors.AnswerBad.{AnswerBad}
 use Rattle.pf_lines.specs.declared.errors.AnswerBad.TheVariants.{NotText, NoMemory}
+use Rattle.pf_lines.specs.declared.taking.Valued.{Valued}
 
 -- no digit stands in front
 abbrev pub Stops : List ℕ → Type 0
@@ -34,3 +37,12 @@ pub record IsBetween (min max number : ℤ) : Type 0 where
 pub record IsRow (width : ℕ) (min max : ℤ) (numbers : List ℤ) : Type 0 where
   pub full : length numbers ≡ width
   pub each : All (IsBetween min max) numbers
+
+-- a fraction, and a value there of a size below 2^120
+pub record IsValued (point : Valued) : Type 0 where
+  pub at : IsFractionShape point.at
+  pub value : IsWithinSize (2 ^ 120) point.value
+
+-- the line of a fraction and a value there
+abbrev pub valued_line : List ℕ → List ℕ → Valued → List ℕ
+valued_line word indices point = fraction_line word indices point.at (point.value ∷ [])

@@ -1,8 +1,9 @@
 // Why readers refuse.
 ghost use Rattle.std.specs.Prelude.{◌≡◌};
+ghost use Rattle.pf_lines.specs.Gathering.{line_refusal};
 
 use pf_frame::NoMemory;
-use pf_text::TextBad;
+use pf_text::{RuleKind, TextBad};
 use std::alloc::{AllocError, AllocFailed};
 use thiserror::Error;
 
@@ -85,5 +86,66 @@ impl<T: Drop> From<AllocFailed<T>> for AnswerBad {
 
     fn from(_error: AllocFailed<T>) -> AnswerBad {
         AnswerBad::NoMemory
+    }
+}
+
+/// Why a line that has a form, or the line `end`, is not taken.
+#[derive(Clone, Copy, Debug, PartialEq, Eq, Error)]
+pub enum LineBad {
+    /// The line breaks this rule of its kind.
+    #[error("rule {0}")]
+    Broken(RuleKind),
+    /// Memory was not found.
+    #[error("no memory")]
+    NoMemory,
+}
+
+impl From<RuleKind> for LineBad {
+    ghost use Rattle.pf_lines.specs.declared.errors.LineBad.TheVariants.{Broken};
+
+    ghost from_gives = { λ rule bad. bad ≡ Broken rule };
+
+    fn from(rule: RuleKind) -> LineBad {
+        LineBad::Broken(rule)
+    }
+}
+
+impl From<NoMemory> for LineBad {
+    ghost use Rattle.pf_lines.specs.declared.errors.LineBad.TheVariants.{NoMemory};
+
+    ghost from_gives = { λ _ bad. bad ≡ NoMemory };
+
+    fn from(_error: NoMemory) -> LineBad {
+        LineBad::NoMemory
+    }
+}
+
+impl From<AllocError> for LineBad {
+    ghost use Rattle.pf_lines.specs.declared.errors.LineBad.TheVariants.{NoMemory};
+
+    ghost from_gives = { λ _ bad. bad ≡ NoMemory };
+
+    fn from(_error: AllocError) -> LineBad {
+        LineBad::NoMemory
+    }
+}
+
+impl<T: Drop> From<AllocFailed<T>> for LineBad {
+    ghost use Rattle.pf_lines.specs.declared.errors.LineBad.TheVariants.{NoMemory};
+
+    ghost from_gives = { λ _ bad. bad ≡ NoMemory };
+
+    fn from(_error: AllocFailed<T>) -> LineBad {
+        LineBad::NoMemory
+    }
+}
+
+/// The refusal of the line of this number.
+pub fn at_line(line: u64, bad: LineBad) -> ReadBad
+    ensures { result ≡ line_refusal line bad }
+{
+    match bad {
+        LineBad::Broken(rule) => ReadBad::Text(TextBad::Rule(line, rule)),
+        LineBad::NoMemory => ReadBad::NoMemory,
     }
 }

@@ -1,10 +1,11 @@
 // Pieces of a text with one spelling, taken from its front.
-ghost use Rattle.std.specs.Prelude.{◌≡◌, ◌++◌, ◌∷◌, [], ◌≤ℤ◌, ℕ, ℤ, Bool, List, length, IfOk, IfSome, IfNone};
+ghost use Rattle.std.specs.Prelude.{◌≡◌, ◌++◌, ◌∷◌, [], ◌≤ℤ◌, ◌≤◌, ◌^◌, ℕ, ℤ, Bool, List, length, map, IfOk, IfSome, IfNone};
 ghost use Rattle.std.specs.Fmt.{decimal, signed_decimal};
 ghost use Rattle.pf_model.specs.Fraction.{Fraction, IsBoundedFraction, IsLowest};
-ghost use Rattle.pf_model.specs.Answer.{IsFractionShape};
-ghost use Rattle.pf_text.specs.Spelling.{side_text, fraction_text, numbers_text, numbered_line};
-ghost use Rattle.pf_lines.specs.Taking.{Passes, Stops, Takes, IsRow};
+ghost use Rattle.pf_model.specs.Answer.{IsFractionShape, IsWithinSize};
+ghost use Rattle.pf_text.specs.Spelling.{side_text, spaced, rest_of_line, fraction_text, numbers_text, head_text, row_line, fraction_line, side_line};
+ghost use Rattle.pf_lines.specs.Taking.{Passes, Stops, Takes, IsRow, IsValued, valued_line};
+ghost use Rattle.pf_lines.specs.declared.taking.Valued.{Valued};
 
 use crate::errors::AnswerBad;
 use crate::exact::Exact;
@@ -123,24 +124,143 @@ pub fn take_numbers(
     Ok(Numbers::from_vec(numbers))
 }
 
-/// A line of this word, this number, and so many numbers from `min` to `max`.
-pub fn take_numbered_line(
+// The numbers that a line is known by, each with a space in front.
+fn take_indices(text: &mut Exact<'_>, indices: &[usize]) -> Result<(), AnswerBad>
+    ensures taken { IfOk result (λ _. text.old ≡ spaced (map decimal indices.now) ++ text.new) }
+    ensures found { (rest : List ℕ) → Stops rest → text.old ≡ spaced (map decimal indices.now) ++ rest → Passes rest result text.new }
+{
+    'items: for index in indices {
+        take_index(text, *index)?;
+    }
+    Ok(())
+}
+
+/// What a line begins with: this word, and the numbers that it is known by.
+pub fn take_head(text: &mut Exact<'_>, word: &[u8], indices: &[usize]) -> Result<(), AnswerBad>
+    ensures taken { IfOk result (λ _. text.old ≡ head_text word.now indices.now ++ text.new) }
+    ensures found { (rest : List ℕ) → Stops rest → text.old ≡ head_text word.now indices.now ++ rest → Passes rest result text.new }
+{
+    take_word(text, word)?;
+    take_indices(text, indices)?;
+    Ok(())
+}
+
+/// A line of so many numbers from `min` to `max`, as `f F1 .. FM`, `f J F1 .. FM` and `r J R X1 .. XM`.
+pub fn take_row(
     alloc: Global,
     word: &[u8],
-    index: usize,
+    indices: &[usize],
     width: usize,
     min: i128,
     max: i128,
     text: &mut Exact<'_>,
 ) -> Result<Numbers, AnswerBad>
-    ensures taken { IfOk result (λ numbers. text.old ≡ numbered_line word.now index numbers ++ text.new) }
+    ensures taken { IfOk result (λ numbers. text.old ≡ row_line word.now indices.now numbers ++ text.new) }
     ensures shape { IfOk result (IsRow width min max) }
     ensures found { (numbers : List ℤ) (rest : List ℕ) → IsRow width min max numbers
-        → text.old ≡ numbered_line word.now index numbers ++ rest → Takes numbers rest result text.new }
+        → text.old ≡ row_line word.now indices.now numbers ++ rest → Takes numbers rest result text.new }
 {
-    take_word(text, word)?;
-    take_index(text, index)?;
+    take_head(text, word, indices)?;
     let numbers = take_numbers(alloc, width, min, max, text)?;
     take_word(text, b"\n")?;
     Ok(numbers)
+}
+
+/// A line of a fraction, as `d P Q`, `l J P Q` and `x ID P Q`.
+pub fn take_fraction_row(
+    text: &mut Exact<'_>,
+    word: &[u8],
+    indices: &[usize],
+) -> Result<Rat, AnswerBad>
+    ensures taken { IfOk result (λ at. text.old ≡ fraction_line word.now indices.now at [] ++ text.new) }
+    ensures shape { IfOk result IsFractionShape }
+    ensures found { (at : Fraction) (rest : List ℕ) → IsFractionShape at
+        → text.old ≡ fraction_line word.now indices.now at [] ++ rest → Takes at rest result text.new }
+{
+    take_head(text, word, indices)?;
+    let at = take_fraction(text)?;
+    take_word(text, b"\n")?;
+    Ok(at)
+}
+
+/// A parameter, and the value that is written of it, in units of `1/q`.
+#[derive(Drop)]
+pub struct Valued {
+    pub at: Rat,
+    pub value: i128,
+}
+
+// A value of a size below 2^120.
+fn take_value(text: &mut Exact<'_>) -> Result<i128, AnswerBad>
+    ensures taken { IfOk result (λ value. text.old ≡ (32 ∷ signed_decimal value) ++ text.new) }
+    ensures shape { IfOk result (IsWithinSize (2 ^ 120)) }
+    ensures found { (value : ℤ) (rest : List ℕ) → IsWithinSize (2 ^ 120) value → Stops rest
+        → text.old ≡ (32 ∷ signed_decimal value) ++ rest → Takes value rest result text.new }
+{
+    let value = take_number(text, 1 - (1 << 120), (1 << 120) - 1)?;
+    Ok(value)
+}
+
+/// A line of a fraction and a value there of a size below 2^120, as `b J P Q V`.
+pub fn take_valued_row(
+    text: &mut Exact<'_>,
+    word: &[u8],
+    indices: &[usize],
+) -> Result<Valued, AnswerBad>
+    ensures taken { IfOk result (λ point. text.old ≡ valued_line word.now indices.now point ++ text.new) }
+    ensures shape { IfOk result IsValued }
+    ensures found { (point : Valued) (rest : List ℕ) → IsValued point
+        → text.old ≡ valued_line word.now indices.now point ++ rest → Takes point rest result text.new }
+{
+    take_head(text, word, indices)?;
+    let at = take_fraction(text)?;
+    let value = take_value(text)?;
+    take_word(text, b"\n")?;
+    Ok(Valued { at, value })
+}
+
+/// The rest of a line: a side of so many nodes.
+pub fn take_rest_side(alloc: Global, nodes: usize, text: &mut Exact<'_>) -> Result<Side, AnswerBad>
+    ensures taken { IfOk result (λ side. text.old ≡ rest_of_line (side_text side ∷ []) ++ text.new) }
+    ensures count { IfOk result (λ side. length side ≡ nodes) }
+    ensures found { (side : List Bool) (rest : List ℕ) → length side ≡ nodes
+        → text.old ≡ rest_of_line (side_text side ∷ []) ++ rest → Takes side rest result text.new }
+{
+    take_word(text, b" ")?;
+    let side = take_side(alloc, nodes, text)?;
+    take_word(text, b"\n")?;
+    Ok(side)
+}
+
+/// A line of a side of so many nodes, as `s SIDE` and `s J SIDE`.
+pub fn take_side_row(
+    alloc: Global,
+    word: &[u8],
+    indices: &[usize],
+    nodes: usize,
+    text: &mut Exact<'_>,
+) -> Result<Side, AnswerBad>
+    ensures taken { IfOk result (λ side. text.old ≡ side_line word.now indices.now [] side ++ text.new) }
+    ensures count { IfOk result (λ side. length side ≡ nodes) }
+    ensures found { (side : List Bool) (rest : List ℕ) → length side ≡ nodes
+        → text.old ≡ side_line word.now indices.now [] side ++ rest → Takes side rest result text.new }
+{
+    take_head(text, word, indices)?;
+    let side = take_rest_side(alloc, nodes, text)?;
+    Ok(side)
+}
+
+/// A line of a count from `least` on, as `k K`, of no more than bytes stand behind it: so what is read for each of what is
+/// counted takes no more memory than the text.
+pub fn take_count(text: &mut Exact<'_>, word: &[u8], least: usize) -> Result<usize, AnswerBad>
+    ensures taken { IfOk result (λ count. text.old ≡ row_line word.now (count ∷ []) [] ++ text.new) }
+    ensures some { IfOk result (λ count. least ≤ count) }
+    ensures found { (count : ℕ) (rest : List ℕ) → least ≤ count → count ≤ length rest
+        → text.old ≡ row_line word.now (count ∷ []) [] ++ rest → Takes count rest result text.new }
+{
+    take_word(text, word)?;
+    let most = text.rest().len();
+    let count = take_number(text, least as i128, most as i128)?;
+    take_word(text, b"\n")?;
+    Ok(count as usize)
 }

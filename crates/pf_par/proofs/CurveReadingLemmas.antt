@@ -11,9 +11,9 @@ use Rattle.pf_model.specs.Cut.{sum_where}
 use Rattle.pf_model.specs.Network.{Network, ends_of}
 use Rattle.pf_model.specs.Answer.{Curve, IsWithinSize, IsFlowShape, IsCurveShape}
 use Rattle.pf_text.specs.Spelling.{line}
-use Rattle.pf_par.specs.Answers.{cut_fields, point_fields, segments_text, points_text, flows_text, curve_text}
+use Rattle.pf_par.specs.Answers.{value_of, cut_fields, point_fields, segments_text, points_text, flows_text, curve_text}
 use Rattle.pf_par.specs.Outline.{segments_outline, points_outline, outline_text, values_of}
-use Rattle.pf_par.specs.CurveParts.{IsPartsShape, parts_text, value_of}
+use Rattle.pf_par.specs.CurveParts.{IsPartsShape, parts_text}
 use Rattle.pf_par.specs.declared.outline.Outline.{Outline}
 use Rattle.pf_par.specs.declared.reading_curve.Parts.{Parts}
 

@@ -9,13 +9,15 @@ use Rattle.pf_model.specs.declared.Sense.TheVariants.{Rising}
 use Rattle.pf_model.specs.Fraction.{IsBelow, is_below}
 use Rattle.pf_model.specs.Network.{Network, IsMonotone, capacity_at, keeps_slope}
 use Rattle.pf_model.proofs.Lowest.{below_test, lowest_is}
+use Rattle.pf_par.specs.declared.given.End.{End}
+use Rattle.pf_par.specs.declared.given.End.TheVariants.{Source, Sink}
 use Rattle.pf_text.specs.declared.RuleKind.{RuleKind}
 use Rattle.pf_text.specs.Lines.{Line}
-use Rattle.pf_text.specs.Kinds.{State, Accepted, problem_of_lines, broken_if}
-use Rattle.pf_par.specs.Text.{ParameterInterval, Given, par, par_header, node_count, arc_count, node_index, is_given, fraction, interval_form, interval_rules, source_form, source_rules, sink_form, sink_rules, arc_form, arc_rules, arc_rules_by, network_by}
+use Rattle.pf_text.specs.Kinds.{Fits, State, Accepted, problem_of_lines, broken_if}
+use Rattle.pf_par.specs.Text.{ParameterInterval, Given, par, par_header, node_count, arc_count, node_index, is_given, fraction, interval_form, interval_rules, end_given, other_given, with_end, end_form, end_rules, arc_form, arc_rules, arc_rules_by, network_by}
 use Rattle.pf_text.specs.Numbers.{billion}
 use Rattle.pf_par.specs.Laws.{IsTextFraction, IsTextArc, IsTextNetwork, AcceptedIsMonotone, AcceptedIsTextNetwork}
-use Rattle.pf_text.proofs.KindsLaw.{Fits, Keeps, IsInvariant, lines_claims, problem_claims}
+use Rattle.pf_text.proofs.KindsLaw.{Keeps, IsInvariant, lines_claims, problem_claims}
 
 -- ---- what was given
 
@@ -137,39 +139,36 @@ apart_turned : (o : Option ℕ) (v : ℕ) → is_given o v ≡ false → AreApar
 apart_turned (Some w) v e = λ same. absurd (let t = eq-eqb w v same in cc)
 apart_turned None v e = tt
 
-source_kept : (n : ℕ) (given next : Given) (v : ℤ) → IsGoodGiven n given → node_index v < n
-    → source_rules (v ∷ []) given ≡ Ok next → IsGoodGiven n next × (next.arcs ≡ given.arcs)
-source_kept n given next v good small e =
-    let a = broken_ok (is_some given.source) _ _ next e in
-    let b = broken_ok (is_given given.sink (node_index v)) _ _ next a.1 in
-    let same : record given { source = Some (node_index v) } ≡ next = (let e' = b.1 in cc) in
-    let none = none_of given.source a.0 in
-    let good_next : IsGoodGiven n (record given { source = Some (node_index v) }) = record {
-      interval = good.interval;
-      source = small;
-      sink = good.sink;
-      apart = apart_from_test given.sink (node_index v) b.0;
-      arcs = no_arc (IsGivenArc n given.interval None given.sink) (IsGivenArc n given.interval (Some (node_index v)) given.sink) given.arcs (no_source n given.interval given.sink)
-          (subst (λ (o : Option ℕ). All (IsGivenArc n given.interval o given.sink) given.arcs) none good.arcs);
-    } in
-    (subst (IsGoodGiven n) same good_next, ap (λ (g : Given). g.arcs) (sym same))
+-- with a node for an end that was not given
+good_end : (end : End) (n v : ℕ) (given : Given) → IsGoodGiven n given → v < n → is_some (end_given end given) ≡ false → is_given (other_given end given) v ≡ false → IsGoodGiven n (with_end end v given)
+good_end Source n v given good small new other = record {
+  interval = good.interval;
+  source = small;
+  sink = good.sink;
+  apart = apart_from_test given.sink v other;
+  arcs = no_arc (IsGivenArc n given.interval None given.sink) (IsGivenArc n given.interval (Some v) given.sink) given.arcs (no_source n given.interval given.sink)
+      (subst (λ (o : Option ℕ). All (IsGivenArc n given.interval o given.sink) given.arcs) (none_of given.source new) good.arcs);
+}
+good_end Sink n v given good small new other = record {
+  interval = good.interval;
+  source = good.source;
+  sink = small;
+  apart = apart_turned given.source v other;
+  arcs = no_arc (IsGivenArc n given.interval given.source None) (IsGivenArc n given.interval given.source (Some v)) given.arcs (no_sink n given.interval given.source)
+      (subst (λ (o : Option ℕ). All (IsGivenArc n given.interval given.source o) given.arcs) (none_of given.sink new) good.arcs);
+}
 
-sink_kept : (n : ℕ) (given next : Given) (v : ℤ) → IsGoodGiven n given → node_index v < n
-    → sink_rules (v ∷ []) given ≡ Ok next → IsGoodGiven n next × (next.arcs ≡ given.arcs)
-sink_kept n given next v good small e =
-    let a = broken_ok (is_some given.sink) _ _ next e in
-    let b = broken_ok (is_given given.source (node_index v)) _ _ next a.1 in
-    let same : record given { sink = Some (node_index v) } ≡ next = (let e' = b.1 in cc) in
-    let none = none_of given.sink a.0 in
-    let good_next : IsGoodGiven n (record given { sink = Some (node_index v) }) = record {
-      interval = good.interval;
-      source = good.source;
-      sink = small;
-      apart = apart_turned given.source (node_index v) b.0;
-      arcs = no_arc (IsGivenArc n given.interval given.source None) (IsGivenArc n given.interval given.source (Some (node_index v))) given.arcs (no_sink n given.interval given.source)
-          (subst (λ (o : Option ℕ). All (IsGivenArc n given.interval given.source o) given.arcs) none good.arcs);
-    } in
-    (subst (IsGoodGiven n) same good_next, ap (λ (g : Given). g.arcs) (sym same))
+same_arcs : (end : End) (v : ℕ) (given : Given) → (with_end end v given).arcs ≡ given.arcs
+same_arcs Source v given = refl
+same_arcs Sink v given = refl
+
+end_kept : (end : End) (n : ℕ) (given next : Given) (v : ℤ) → IsGoodGiven n given → node_index v < n
+    → end_rules end (v ∷ []) given ≡ Ok next → IsGoodGiven n next × (next.arcs ≡ given.arcs)
+end_kept end n given next v good small e =
+    let a = broken_ok (is_some (end_given end given)) _ _ next e in
+    let b = broken_ok (is_given (other_given end given) (node_index v)) _ _ next a.1 in
+    let same : with_end end (node_index v) given ≡ next = (let e' = b.1 in cc) in
+    (subst (IsGoodGiven n) same (good_end end n (node_index v) given good small a.0 b.0), ap (λ (g : Given). g.arcs) (sym same) ∙ same_arcs end (node_index v) given)
 
 record IsArcGiven (n : ℕ) (interval : Option ParameterInterval) (source sink : Option ℕ) (arc : AffineArc) (given next : Given) : Type 0 where
   pub good : IsGivenArc n interval source sink arc
@@ -224,17 +223,11 @@ interval_line (lp ∷ lq ∷ hp ∷ hq ∷ []) state good fit = λ place next e.
     (fraction_is lp lq fit.0 fit.1 fit.2.0 fit.2.1) (fraction_is hp hq fit.2.2.0 fit.2.2.1 fit.2.2.2.0 fit.2.2.2.1) e)
 interval_line (lp ∷ lq ∷ hp ∷ hq ∷ n ∷ numbers) state good fit = absurd fit.2.2.2.2
 
-source_line : (numbers : List ℤ) (state : State Given) → IsGoodState state → Fits (source_form state.header_numbers).patterns numbers → Keeps par IsGoodState state (source_form state.header_numbers) numbers
-source_line [] state good fit = absurd fit
-source_line (v ∷ []) state good fit = λ place next e.
-    uncounted state next good (source_kept (node_count state.header_numbers) state.given next v good.given (index_below v (node_count state.header_numbers) fit.0 fit.1) e)
-source_line (v ∷ n ∷ numbers) state good fit = absurd fit.2
-
-sink_line : (numbers : List ℤ) (state : State Given) → IsGoodState state → Fits (sink_form state.header_numbers).patterns numbers → Keeps par IsGoodState state (sink_form state.header_numbers) numbers
-sink_line [] state good fit = absurd fit
-sink_line (v ∷ []) state good fit = λ place next e.
-    uncounted state next good (sink_kept (node_count state.header_numbers) state.given next v good.given (index_below v (node_count state.header_numbers) fit.0 fit.1) e)
-sink_line (v ∷ n ∷ numbers) state good fit = absurd fit.2
+end_line : (end : End) (numbers : List ℤ) (state : State Given) → IsGoodState state → Fits (end_form end state.header_numbers).patterns numbers → Keeps par IsGoodState state (end_form end state.header_numbers) numbers
+end_line end [] state good fit = absurd fit
+end_line end (v ∷ []) state good fit = λ place next e.
+    uncounted state next good (end_kept end (node_count state.header_numbers) state.given next v good.given (index_below v (node_count state.header_numbers) fit.0 fit.1) e)
+end_line end (v ∷ n ∷ numbers) state good fit = absurd fit.2
 
 arc_line : (numbers : List ℤ) (state : State Given) → IsGoodState state → Fits (arc_form state.header_numbers).patterns numbers → Keeps par IsGoodState state (arc_form state.header_numbers) numbers
 unfolding par
@@ -326,7 +319,7 @@ par_invariant : IsInvariant par IsGoodState IsGoodNetwork
 unfolding par
 par_invariant = record {
   begins = header_begins;
-  kept = λ state good. (λ numbers. interval_line numbers state good, (λ numbers. source_line numbers state good, (λ numbers. sink_line numbers state good, (λ numbers. arc_line numbers state good, tt))));
+  kept = λ state good. (λ numbers. interval_line numbers state good, (λ numbers. end_line Source numbers state good, (λ numbers. end_line Sink numbers state good, (λ numbers. arc_line numbers state good, tt))));
   ends = λ state net good all. end_is state net good;
 }
 

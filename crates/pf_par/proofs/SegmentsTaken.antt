@@ -6,10 +6,11 @@ use Rattle.std.proofs.lemmas.List.Elements.{All-nil, All-cons, All-push}
 use Rattle.pf_model.specs.Fraction.{Fraction}
 use Rattle.pf_model.specs.Network.{Network, IsNetworkCut}
 use Rattle.pf_model.specs.Answer.{IsFractionShape, IsWithinSize}
-use Rattle.pf_par.specs.Outline.{IsOutlineShape, IsSegmentShape, IsValuedShape, point_line, points_outline, segment_text, segments_outline}
+use Rattle.pf_par.specs.Outline.{IsOutlineShape, IsSegmentShape, point_line, points_outline, segment_text, segments_outline}
 use Rattle.pf_par.specs.declared.outline.Outline.{Outline}
 use Rattle.pf_par.specs.declared.outline.Segment.{Segment}
-use Rattle.pf_par.specs.declared.outline.ValuedPoint.{ValuedPoint}
+use Rattle.pf_lines.specs.declared.taking.Valued.{Valued}
+use Rattle.pf_lines.specs.Taking.{IsValued}
 
 -- ---- texts of one segment more
 
@@ -81,10 +82,10 @@ pub record HasNext (net : Network) (o whole : Outline) (i : ℕ) (now rest : Lis
 
 -- the first point that is there, and the segments behind it
 record HasFirst (net : Network) (whole : Outline) (old rest : List ℕ) : Type 0 where
-  first : ValuedPoint
+  first : Valued
   points : List Fraction
   values : List ℤ
-  shape : IsValuedShape first
+  shape : IsValued first
   points_are : whole.points ≡ first.at ∷ points
   values_are : whole.values ≡ first.value ∷ values
   text : old ≡ point_line 0 first ++ (segments_outline net 1 whole.cuts points values ++ rest)
@@ -108,11 +109,11 @@ first_is net whole old rest shape e = first_by net whole.cuts whole.points whole
 
 -- the first point is the one that is read
 pub first_given : (net : Network) (whole : Outline) (old rest : List ℕ) (P : Type 0) → IsOutlineShape net whole → old ≡ points_outline net whole.cuts whole.points whole.values ++ rest
-    → ((point : ValuedPoint) (later : List ℕ) → IsValuedShape point → old ≡ point_line 0 point ++ later → P) → P
+    → ((point : Valued) (later : List ℕ) → IsValued point → old ≡ point_line 0 point ++ later → P) → P
 first_given net whole old rest P shape e found = let f = first_is net whole old rest shape e in found f.first (segments_outline net 1 whole.cuts f.points f.values ++ rest) f.shape f.text
 
-pub begins : (net : Network) (old : List ℕ) (count : ℕ) (first : ValuedPoint) (now : List ℕ) → IsValuedShape first → old ≡ point_line 0 first ++ now
-    → ((point : ValuedPoint) (rest : List ℕ) → IsValuedShape point → old ≡ point_line 0 point ++ rest → (first ≡ point) × (now ≡ rest))
+pub begins : (net : Network) (old : List ℕ) (count : ℕ) (first : Valued) (now : List ℕ) → IsValued first → old ≡ point_line 0 first ++ now
+    → ((point : Valued) (rest : List ℕ) → IsValued point → old ≡ point_line 0 point ++ rest → (first ≡ point) × (now ≡ rest))
     → HasRead net old count (outline_of (first.at ∷ []) [] (first.value ∷ [])) 0 now
 begins net old count first now shape taken found = record {
   cut_count = refl;
@@ -130,8 +131,8 @@ begins net old count first now shape taken found = record {
         points = f.points;
         values = f.values;
         cuts_are = refl;
-        points_are = f.points_are ∙ ap (λ (p : ValuedPoint). p.at ∷ f.points) (sym given.0);
-        values_are = f.values_are ∙ ap (λ (p : ValuedPoint). p.value ∷ f.values) (sym given.0);
+        points_are = f.points_are ∙ ap (λ (p : Valued). p.at ∷ f.points) (sym given.0);
+        values_are = f.values_are ∙ ap (λ (p : Valued). p.value ∷ f.values) (sym given.0);
         text = given.1;
       };
 }

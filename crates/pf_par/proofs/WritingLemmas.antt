@@ -1,5 +1,5 @@
 -- The lines of points, cuts and flows, printed piece by piece.
-use Rattle.std.proofs.Common.{◌≡◌, ℕ, ◌+◌, ◌<◌, List, [], ◌∷◌, ◌++◌, length, drop, get_or, map, refl, sym, ◌∙◌, arith}
+use Rattle.std.proofs.Common.{◌≡◌, ℕ, ◌<◌, List, [], ◌∷◌, ◌++◌, length, drop, get_or, map, refl, sym, ◌∙◌, arith}
 use Rattle.std.proofs.lemmas.List.{drop_all, length-map}
 use Rattle.std.specs.Prelude.{ℤ, pos, Bool, codes}
 use Rattle.std.specs.Fmt.{decimal}
@@ -7,12 +7,12 @@ use Rattle.pf_model.specs.Fraction.{Fraction}
 use Rattle.pf_model.specs.Network.{Network, ends_of}
 use Rattle.pf_model.specs.Answer.{IsFlowShape}
 use Rattle.pf_frame.specs.Numbers.{IsSized}
-use Rattle.pf_net.specs.Limits.{graph_of}
+use Rattle.pf_net.specs.Limits.{digraph_of}
 use Rattle.pf_text.specs.Spelling.{line}
 use Rattle.pf_par.specs.Answers.{point_fields, segments_text, points_text}
 
 -- a flow of the right shape has a number of the right size for each arc
-pub sized : (net : Network) (flow : List ℤ) → IsFlowShape net flow → IsSized (graph_of net) flow
+pub sized : (net : Network) (flow : List ℤ) → IsFlowShape net flow → IsSized (digraph_of net) flow
 sized net flow shape =
     let full : length flow ≡ length (map ends_of net.arcs) = shape.full ∙ sym (length-map net.arcs ends_of) in
     record {

@@ -1,15 +1,10 @@
 -- The parts of a curve's text: its outline, and its flows.
-use Rattle.std.specs.Prelude.{◌≡◌, ℕ, ℤ, List, ◌++◌, length, map, All, codes}
-use Rattle.pf_model.specs.Flow.{flow_value}
-use Rattle.pf_model.specs.Network.{Network, ends_of}
+use Rattle.std.specs.Prelude.{◌≡◌, ℕ, List, ◌++◌, length, All, codes}
+use Rattle.pf_model.specs.Network.{Network}
 use Rattle.pf_model.specs.Answer.{IsFlowShape}
 use Rattle.pf_par.specs.Answers.{flows_text}
 use Rattle.pf_par.specs.Outline.{IsOutlineShape, outline_text}
 use Rattle.pf_par.specs.declared.reading_curve.Parts.{Parts}
-
--- what leaves the source less what enters it
-abbrev pub value_of : Network → List ℤ → ℤ
-value_of net flow = flow_value (map ends_of net.arcs) flow net.source
 
 -- the first word, the outline, the flows and the last word
 abbrev pub parts_text : Network → Parts → List ℕ

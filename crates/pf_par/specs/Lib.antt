@@ -2,7 +2,6 @@ pub mod Text
 pub mod Answers
 pub mod Right
 pub mod Laws
-pub mod Forms
 pub mod Rules
 pub mod ParState
 pub mod Outline

@@ -2,13 +2,13 @@
 use Rattle.std.specs.Prelude.{◌≡◌, ℕ, ◌+◌, ◌<◌, ◌^◌, ℤ, Bool, List, [], ◌∷◌, ◌++◌, length, map, All, codes}
 use Rattle.std.specs.Fmt.{decimal, signed_decimal}
 use Rattle.pf_model.specs.Fraction.{Fraction}
-use Rattle.pf_model.specs.Flow.{flow_value}
-use Rattle.pf_model.specs.Network.{Network, IsNetworkCut, ends_of}
+use Rattle.pf_model.specs.Network.{Network, IsNetworkCut}
 use Rattle.pf_model.specs.Answer.{IsWithinSize, IsFractionShape}
 use Rattle.pf_text.specs.Spelling.{line}
-use Rattle.pf_par.specs.Answers.{cut_fields}
+use Rattle.pf_par.specs.Answers.{value_of, cut_fields}
 use Rattle.pf_par.specs.declared.outline.Outline.{Outline}
-use Rattle.pf_par.specs.declared.outline.ValuedPoint.{ValuedPoint}
+use Rattle.pf_lines.specs.declared.taking.Valued.{Valued}
+use Rattle.pf_lines.specs.Taking.{IsValued, valued_line}
 use Rattle.pf_par.specs.declared.outline.Segment.{Segment}
 
 -- a fraction, and the value that is written of the flow there
@@ -41,11 +41,11 @@ pub record IsOutlineShape (net : Network) (o : Outline) : Type 0 where
 
 -- the value of each flow
 abbrev pub values_of : Network → List (List ℤ) → List ℤ
-values_of net flows = map (λ flow. flow_value (map ends_of net.arcs) flow net.source) flows
+values_of net flows = map (value_of net) flows
 
 -- the line of point i
-abbrev pub point_line : ℕ → ValuedPoint → List ℕ
-point_line i point = line (codes "b" ∷ decimal i ∷ value_fields point.at point.value)
+abbrev pub point_line : ℕ → Valued → List ℕ
+point_line i point = valued_line (codes "b") (i ∷ []) point
 
 -- the line of cut i
 abbrev pub cut_line : Network → ℕ → List Bool → List ℕ
@@ -55,12 +55,7 @@ cut_line net i side = line (codes "s" ∷ decimal i ∷ cut_fields net side)
 abbrev pub segment_text : Network → ℕ → Segment → List ℕ
 segment_text net i segment = cut_line net i segment.side ++ point_line i segment.point
 
--- a fraction, and a value
-pub record IsValuedShape (point : ValuedPoint) : Type 0 where
-  pub at : IsFractionShape point.at
-  pub value : IsWithinSize (2 ^ 120) point.value
-
 -- a cut, and the point behind it
 pub record IsSegmentShape (net : Network) (segment : Segment) : Type 0 where
   pub cut : IsNetworkCut net segment.side
-  pub point : IsValuedShape segment.point
+  pub point : IsValued segment.point

@@ -4,10 +4,8 @@ use Rattle.pf_model.specs.declared.AffineArc.{AffineArc}
 use Rattle.pf_model.specs.declared.Sense.TheVariants.{Rising}
 use Rattle.pf_model.specs.Network.{Network, IsMonotone}
 use Rattle.pf_text.specs.declared.RuleKind.{RuleKind}
-use Rattle.pf_text.specs.Kinds.{State, Accepted, end_line}
-use Rattle.pf_text.specs.Lines.{Line}
 use Rattle.pf_par.specs.Laws.{IsTextNetwork}
-use Rattle.pf_par.specs.Text.{ParameterInterval, Given, network_by, par}
+use Rattle.pf_par.specs.Text.{ParameterInterval, network_by}
 use Rattle.pf_text.specs.Numbers.{billion}
 
 -- the rule that is broken decides, and else what follows
@@ -25,7 +23,3 @@ pub record IsEnd (p q : ℤ) : Type 0 where
 -- the network of what was given, where there is one, is monotone and within the limits of texts
 abbrev pub IsGoodEnd : ℕ → Option ParameterInterval → Option ℕ → Option ℕ → List AffineArc → Type 0
 IsGoodEnd nodes interval source sink arcs = (net : Network) → network_by nodes Rising interval source sink arcs ≡ Ok net → IsMonotone net × IsTextNetwork net
-
--- the same of the network that a line `end` gives, where it gives one
-abbrev pub IsGoodEndLine : State Given → Line → Type 0
-IsGoodEndLine state line = (read : Accepted Network) → end_line par state line ≡ Ok read → IsMonotone read.problem × IsTextNetwork read.problem

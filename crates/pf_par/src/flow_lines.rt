@@ -1,13 +1,12 @@
 // The lines of flows of a curve's text.
-ghost use Rattle.std.specs.Prelude.{◌≡◌, ◌++◌, ◌∷◌, [], ℕ, ℤ, List, length, All, IfOk, Err};
+ghost use Rattle.std.specs.Prelude.{◌≡◌, ◌++◌, ◌∷◌, [], ℕ, ℤ, List, length, All, IfOk};
 ghost use Rattle.pf_model.specs.Answer.{IsFlowShape};
-ghost use Rattle.pf_lines.specs.declared.errors.AnswerBad.{AnswerBad};
 ghost use Rattle.pf_par.specs.Answers.{flows_text};
 ghost use Rattle.pf_lines.specs.Taking.{Takes};
 ghost use Rattle.pf_par.specs.FlowLines.{IsFlowRow, flow_line};
 
 use pf_frame::{FlowTable, Numbers};
-use pf_lines::{AnswerBad, Exact, take_numbered_line};
+use pf_lines::{AnswerBad, Exact, take_row};
 use pf_net::Net;
 use std::alloc::Global;
 
@@ -28,16 +27,7 @@ fn take_flow_line(
     ensures found { (flow : List ℤ) (rest : List ℕ) → IsFlowRow width flow
         → text.old ≡ flow_line j flow ++ rest → Takes flow rest result text.new }
 {
-    take_numbered_line(alloc, b"f", j, width, LEAST, GREATEST, text)
-}
-
-// Adds a flow to the table.
-fn add(flows: &mut FlowTable, flow: Numbers) -> Result<(), AnswerBad>
-    ensures added { IfOk result (λ _. flows.new ≡ flows.old ++ flow ∷ []) }
-    ensures memory { (bad : AnswerBad) → result ≡ Err bad → bad ≡ AnswerBad.NoMemory }
-{
-    flows.push(flow)?;
-    Ok(())
+    take_row(alloc, b"f", &[j], width, LEAST, GREATEST, text)
 }
 
 // So many lines of flows, numbered from 0.
@@ -56,7 +46,7 @@ fn take_flow_lines(
     let mut flows = FlowTable::new(alloc);
     'flows: for j in 0..count {
         let flow = take_flow_line(alloc, width, j, text)?;
-        add(&mut flows, flow)?;
+        flows.push(flow)?;
     }
     Ok(flows)
 }

@@ -10,24 +10,21 @@
 
 mod checking;
 mod flow_lines;
+mod given;
 pub mod laws;
 mod outline;
-mod reading;
+mod problem;
+#[cfg(test)]
+mod problem_tests;
 mod reading_curve;
 #[cfg(test)]
 mod reading_curve_tests;
-mod reading_fields;
-mod reading_forms;
-mod reading_rules;
-mod reading_state;
-#[cfg(test)]
-mod reading_tests;
 mod writing;
 #[cfg(test)]
 mod writing_tests;
 
 pub use checking::is_certified_text;
 pub use pf_lines::{AnswerBad, ReadBad};
-pub use reading::read_par;
+pub use problem::read_par;
 pub use reading_curve::read_curve;
 pub use writing::{write_at, write_curve};

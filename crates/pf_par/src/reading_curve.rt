@@ -1,10 +1,10 @@
 // Reading of the text of a curve.
 ghost use Rattle.std.specs.Prelude.{◌≡◌, ◌≢◌, ◌↔◌, ◌++◌, [], ℕ, List, length, All, IfOk, IsTrue, Err};
 ghost use Rattle.pf_model.specs.Answer.{Curve, IsCurveShape, IsFlowShape};
-ghost use Rattle.pf_par.specs.Answers.{curve_text};
+ghost use Rattle.pf_par.specs.Answers.{value_of, curve_text};
 ghost use Rattle.pf_par.specs.Outline.{values_of};
 ghost use Rattle.pf_lines.specs.Taking.{Takes};
-ghost use Rattle.pf_par.specs.CurveParts.{IsPartsShape, parts_text, value_of};
+ghost use Rattle.pf_par.specs.CurveParts.{IsPartsShape, parts_text};
 ghost use Rattle.pf_par.specs.declared.reading_curve.Parts.{Parts};
 
 use crate::flow_lines::take_flows;

@@ -10,17 +10,9 @@ use Rattle.pf_text.specs.declared.RuleKind.{RuleKind}
 use Rattle.pf_text.specs.declared.TextBad.{TextBad}
 use Rattle.pf_text.specs.Lines.{Line, lines_from}
 use Rattle.pf_text.specs.Numbers.{whole_of}
-use Rattle.pf_text.specs.Kinds.{FieldPattern, number, word, Form, Kind, State, Accepted, Match, with_number, numbers_by, are_in_range, first_of, match_of, rule_at, and_then, refuse_if, state_of_header, state_of_match, header, step, is_end, end_line, body, problem_of_lines, problem_of}
+use Rattle.pf_text.specs.Kinds.{FieldPattern, number, word, Fits, Form, Kind, State, Accepted, Match, with_number, numbers_by, are_in_range, first_of, match_of, rule_at, and_then, refuse_if, state_of_header, state_of_match, header, step, is_end, end_line, body, problem_of_lines, problem_of}
 
 -- ---- the numbers of a line
-
--- a number for each pattern of a number, in its range
-abbrev pub Fits : List FieldPattern → List ℤ → Type 0
-Fits [] [] = Unit {0}
-Fits [] (n ∷ numbers) = ⊥
-Fits (number low high ∷ patterns) [] = ⊥
-Fits (number low high ∷ patterns) (n ∷ numbers) = (low ≤ℤ n) × (n ≤ℤ high) × Fits patterns numbers
-Fits (word w ∷ patterns) numbers = Fits patterns numbers
 
 record HasNumber (a : Option ℤ) (b : Option (List ℤ)) (numbers : List ℤ) : Type 0 where
   pub first : ℤ
@@ -128,7 +120,7 @@ Keeps {G} kind Holds state form numbers =
 
 -- what holds behind the header and is kept by each line gives what is claimed of the problem
 pub record IsInvariant {G P : Type 0} (kind : Kind G P) (Holds : State G → Type 0) (Claim : P → Type 0) : Type 0 where
-  pub begins : (numbers : List ℤ) → Fits kind.header_patterns numbers → Holds (record { header_numbers = numbers; counted_lines = 0; given = kind.start })
+  pub begins : (numbers : List ℤ) → Fits kind.header_patterns numbers → Holds (record { header_numbers = numbers; counted_lines = 0; given = kind.start numbers })
   pub kept : (state : State G) → Holds state → AllByRecursion (HoldsOf (Keeps kind Holds state)) (kind.forms state.header_numbers)
   pub ends : (state : State G) (problem : P) → Holds state → kind.count state.header_numbers ≤ state.counted_lines
       → kind.problem state.header_numbers state.given ≡ Ok problem → Claim problem
@@ -176,7 +168,7 @@ header_begins : {G P : Type 0} (kind : Kind G P) (Holds : State G → Type 0) (C
 header_begins kind Holds Claim n fields None state law is e = absurd cc
 header_begins kind Holds Claim n fields (Some numbers) state law is e =
     let a = refuse_ok (not (are_in_range kind.header_patterns numbers)) _ _ state e in
-    let same : record { header_numbers = numbers; counted_lines = 0; given = kind.start } ≡ state = (let e' = a.1 in cc) in
+    let same : record { header_numbers = numbers; counted_lines = 0; given = kind.start numbers } ≡ state = (let e' = a.1 in cc) in
     subst Holds same (law.begins numbers (fits (word (codes "p") ∷ word kind.name ∷ kind.header_patterns) fields numbers is (not_false _ a.0)))
 
 -- what is claimed holds of the problem of all lines that are accepted

@@ -4,7 +4,7 @@ use Rattle.std.proofs.lemmas.List.{append-nil, take_more, take-append-drop, map-
 use Rattle.std.specs.Prelude.{ℤ, pos, Bool}
 use Rattle.std.specs.Fmt.{decimal, signed_decimal}
 use Rattle.std.specs.List.{join_with_byte}
-use Rattle.pf_text.specs.Spelling.{line, side_text, spaced, rest_of_line, numbers_text, numbered_line}
+use Rattle.pf_text.specs.Spelling.{line, side_text, spaced, rest_of_line, numbers_text, head, head_text}
 
 -- A text of a list that is the texts of its pieces: one item more, and the whole behind what was printed.
 pub text_more : {X : Type 0} (text : List X → List ℕ) → ((a b : List X) → text (a ++ b) ≡ text a ++ text b) → (xs : List X) (i : ℕ) (d : X) → i < length xs
@@ -21,21 +21,26 @@ spaced-append : (a b : List (List ℕ)) → spaced (a ++ b) ≡ spaced a ++ spac
 spaced-append [] b = refl
 spaced-append (field ∷ a) b = ap (λ (rest : List ℕ). (32 ∷ field) ++ rest) (spaced-append a b) ∙ sym (append_assoc (32 ∷ field) (spaced a) (spaced b))
 
+fields-append : {X : Type 0} (field : X → List ℕ) (a b : List X) → spaced (map field (a ++ b)) ≡ spaced (map field a) ++ spaced (map field b)
+fields-append field a b = ap spaced (map-append field a b) ∙ spaced-append (map field a) (map field b)
+
 pub numbers_text-append : (a b : List ℤ) → numbers_text (a ++ b) ≡ numbers_text a ++ numbers_text b
-numbers_text-append a b = ap spaced (map-append signed_decimal a b) ∙ spaced-append (map signed_decimal a) (map signed_decimal b)
+numbers_text-append a b = fields-append signed_decimal a b
 
 pub number_text : (number : ℤ) → numbers_text (number ∷ []) ≡ 32 ∷ signed_decimal number
 number_text number = append-nil (32 ∷ signed_decimal number)
 
-pub numbers_more : (numbers : List ℤ) (i : ℕ) → i < length numbers → numbers_text (take (i + 1) numbers) ≡ numbers_text (take i numbers) ++ (32 ∷ signed_decimal (get_or numbers i (pos 0)))
-numbers_more numbers i low =
-    text_more numbers_text numbers_text-append numbers i (pos 0) low
-    ∙ ap (λ (text : List ℕ). numbers_text (take i numbers) ++ text) (number_text (get_or numbers i (pos 0)))
+-- fields, each with a space in front: one more
+pub spaced_more : {X : Type 0} (field : X → List ℕ) (xs : List X) (i : ℕ) (d : X) → i < length xs → spaced (map field (take (i + 1) xs)) ≡ spaced (map field (take i xs)) ++ (32 ∷ field (get_or xs i d))
+spaced_more field xs i d low =
+    text_more (λ ys. spaced (map field ys)) (fields-append field) xs i d low
+    ∙ ap (λ (text : List ℕ). spaced (map field (take i xs)) ++ text) (append-nil (32 ∷ field (get_or xs i d)))
 
-pub numbers_all : (numbers : List ℤ) (i : ℕ) → i < length numbers → numbers_text numbers ≡ (numbers_text (take i numbers) ++ (32 ∷ signed_decimal (get_or numbers i (pos 0)))) ++ numbers_text (drop (i + 1) numbers)
-numbers_all numbers i low =
-    text_all numbers_text numbers_text-append numbers i (pos 0) low
-    ∙ ap (λ (text : List ℕ). (numbers_text (take i numbers) ++ text) ++ numbers_text (drop (i + 1) numbers)) (number_text (get_or numbers i (pos 0)))
+pub spaced_all : {X : Type 0} (field : X → List ℕ) (xs : List X) (i : ℕ) (d : X) → i < length xs
+    → spaced (map field xs) ≡ (spaced (map field (take i xs)) ++ (32 ∷ field (get_or xs i d))) ++ spaced (map field (drop (i + 1) xs))
+spaced_all field xs i d low =
+    text_all (λ ys. spaced (map field ys)) (fields-append field) xs i d low
+    ∙ ap (λ (text : List ℕ). (spaced (map field (take i xs)) ++ text) ++ spaced (map field (drop (i + 1) xs))) (append-nil (32 ∷ field (get_or xs i d)))
 
 pub side_text-append : (a b : List Bool) → side_text (a ++ b) ≡ side_text a ++ side_text b
 side_text-append [] b = refl
@@ -61,12 +66,18 @@ rest-append [] others = refl
 rest-append (field ∷ fields) others =
     append_assoc (32 ∷ field) (spaced fields) (rest_of_line others) ∙ ap (λ (rest : List ℕ). (32 ∷ field) ++ rest) (rest-append fields others)
 
--- the parts of a numbered line
-pub numbered_line_is : (word : List ℕ) (index : ℕ) (numbers : List ℤ) (rest : List ℕ) → numbered_line word index numbers ++ rest ≡ word ++ ((32 ∷ decimal index) ++ (numbers_text numbers ++ (10 ∷ rest)))
-numbered_line_is word index numbers rest =
-    let fields = map signed_decimal numbers in
-    ap (λ (t : List ℕ). t ++ rest) (sym (line_is word (decimal index ∷ fields)) ∙ ap (λ (t : List ℕ). word ++ ((32 ∷ decimal index) ++ t)) (sym (rest_is fields)))
-    ∙ by word (32 ∷ decimal index) (numbers_text numbers)
+-- a line is its head, and the rest
+pub head_then : (word : List ℕ) (indices : List ℕ) (fields : List (List ℕ)) → head_text word indices ++ rest_of_line fields ≡ line (head word indices ++ fields)
+head_then word indices fields =
+    append_assoc word (spaced (map decimal indices)) (rest_of_line fields)
+    ∙ ap (λ (rest : List ℕ). word ++ rest) (rest-append (map decimal indices) fields)
+    ∙ line_is word (map decimal indices ++ fields)
+
+-- and what stands behind it
+pub line_then : (word : List ℕ) (indices : List ℕ) (fields : List (List ℕ)) (rest : List ℕ) → line (head word indices ++ fields) ++ rest ≡ head_text word indices ++ (spaced fields ++ (10 ∷ rest))
+line_then word indices fields rest =
+    ap (λ (t : List ℕ). t ++ rest) (sym (head_then word indices fields) ∙ ap (λ (t : List ℕ). head_text word indices ++ t) (sym (rest_is fields)))
+    ∙ by (head_text word indices) (spaced fields)
   where
-    by : (a b c : List ℕ) → (a ++ (b ++ (c ++ 10 ∷ []))) ++ rest ≡ a ++ (b ++ (c ++ (10 ∷ rest)))
-    by a b c = simp append_assoc
+    by : (a b : List ℕ) → (a ++ (b ++ 10 ∷ [])) ++ rest ≡ a ++ (b ++ (10 ∷ rest))
+    by a b = simp append_assoc

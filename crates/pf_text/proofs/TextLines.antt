@@ -53,14 +53,14 @@ field_end_alone (b ∷ field) all =
 is_field : (field : List ℕ) → IsPlain field → IsField field
 is_field field plain = record { some = plain.some; before_blank = λ rest. field_end_plain field rest plain.all refl; alone = field_end_alone field plain.all }
 
-are_fields : (parts : List (List ℕ)) → ArePlain parts → AreFields parts
+pub are_fields : (parts : List (List ℕ)) → ArePlain parts → AreFields parts
 are_fields [] plain = tt
 are_fields (field ∷ parts) plain = (is_field field plain.0, are_fields parts plain.1)
 
 -- ---- lines
 
 -- no line feed
-abbrev is_inside : ℕ → Bool
+abbrev pub is_inside : ℕ → Bool
 is_inside b = not (eqb b 10)
 
 plain_inside : (field : List ℕ) → list_all is_plain field ≡ true → list_all is_inside field ≡ true
@@ -71,7 +71,7 @@ plain_inside (b ∷ field) all =
     let here : is_inside b ≡ true = grind (arith, nat_tests) in
     rw (here, plain_inside field p.1) refl
 
-join_inside : (parts : List (List ℕ)) → ArePlain parts → list_all is_inside (join_with_byte 32 parts) ≡ true
+pub join_inside : (parts : List (List ℕ)) → ArePlain parts → list_all is_inside (join_with_byte 32 parts) ≡ true
 join_inside [] plain = refl
 join_inside (field ∷ []) plain = plain_inside field plain.0.all
 join_inside (field ∷ next ∷ parts) plain =

@@ -31,9 +31,26 @@ fraction_text at = (32 ∷ signed_decimal at.p) ++ (32 ∷ signed_decimal at.q)
 abbrev pub numbers_text : List ℤ → List ℕ
 numbers_text numbers = spaced (map signed_decimal numbers)
 
--- a line of a word and numbers, and one that has a number of its own behind the word
-abbrev pub row_line : List ℕ → List ℤ → List ℕ
-row_line word numbers = line (word ∷ map signed_decimal numbers)
+-- what a line begins with: its word, and the numbers that it is known by, as the number of a cut
+abbrev pub head : List ℕ → List ℕ → List (List ℕ)
+head word indices = word ∷ map decimal indices
 
-abbrev pub numbered_line : List ℕ → ℕ → List ℤ → List ℕ
-numbered_line word index numbers = line (word ∷ decimal index ∷ map signed_decimal numbers)
+-- the same as bytes
+abbrev pub head_text : List ℕ → List ℕ → List ℕ
+head_text word indices = word ++ spaced (map decimal indices)
+
+-- a line of numbers
+abbrev pub row_line : List ℕ → List ℕ → List ℤ → List ℕ
+row_line word indices numbers = line (head word indices ++ map signed_decimal numbers)
+
+-- a line of a fraction, and numbers
+abbrev pub fraction_line : List ℕ → List ℕ → Fraction → List ℤ → List ℕ
+fraction_line word indices at numbers = row_line word indices (at.p ∷ at.q ∷ numbers)
+
+-- a line of numbers, and a side
+abbrev pub side_line : List ℕ → List ℕ → List ℤ → List Bool → List ℕ
+side_line word indices numbers side = line (head word indices ++ (map signed_decimal numbers ++ (side_text side ∷ [])))
+
+-- a line of labels
+abbrev pub label_line : List ℕ → List ℕ → List ℕ → List ℕ
+label_line word indices labels = line (head word indices ++ map decimal labels)

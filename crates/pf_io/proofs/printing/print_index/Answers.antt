@@ -12,13 +12,7 @@ returns-in_err-word g c =
     let p = err_from_is_err_and c.from_residual.result c.from_residual.ensures.1 in
     rw p.1 (adds_stopped _ c.in_err-word.ensures)
 
-pub returns-in_err-num : goal.returns-in_err-num
-returns-in_err-num g c =
-    let p = err_from_is_err_and c.from_residual-in_err-num.result c.from_residual-in_err-num.ensures.1 in
-    let same : to_z w128 c.args.index ≡ pos c.args.index = omega (arith, ints) in
-    rw p.1 (adds_then c.in_ok-word.ensures (rw same at c.in_err-num.ensures))
-
 pub returns : goal.returns
 returns g c =
     let same : to_z w128 c.args.index ≡ pos c.args.index = omega (arith, ints) in
-    adds_then c.in_ok-word.ensures (rw same at c.in_ok-num.ensures)
+    adds_then c.in_ok-word.ensures (rw same at c.num.ensures)

@@ -11,13 +11,7 @@ returns-in_err-word g c =
     let p = err_from_is_err_and c.from_residual.result c.from_residual.ensures.1 in
     rw p.1 (adds_stopped _ c.in_err-word.ensures)
 
-pub returns-in_err-num : goal.returns-in_err-num
-returns-in_err-num g c =
-    let p = err_from_is_err_and c.from_residual-in_err-num.result c.from_residual-in_err-num.ensures.1 in
-    let fits : SFits w128 c.args.number.now = search rules in
-    rw p.1 (adds_then c.in_ok-word.ensures (rw (to_z-of_z w128 c.args.number.now fits) at c.in_err-num.ensures))
-
 pub returns : goal.returns
 returns g c =
     let fits : SFits w128 c.args.number.now = search rules in
-    adds_then c.in_ok-word.ensures (rw (to_z-of_z w128 c.args.number.now fits) at c.in_ok-num.ensures)
+    adds_then c.in_ok-word.ensures (rw (to_z-of_z w128 c.args.number.now fits) at c.num.ensures)

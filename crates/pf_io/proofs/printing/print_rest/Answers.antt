@@ -10,10 +10,5 @@ returns-in_err-print_numbers g c =
     let p = err_from_is_err_and c.from_residual.result c.from_residual.ensures.1 in
     rw (p.1, ← rest_is (map signed_decimal c.args.numbers.now)) (adds_stopped (10 ∷ []) c.in_err-print_numbers.ensures)
 
-pub returns-in_err-word : goal.returns-in_err-word
-returns-in_err-word g c =
-    let p = err_from_is_err_and c.from_residual-in_err-word.result c.from_residual-in_err-word.ensures.1 in
-    rw (p.1, ← rest_is (map signed_decimal c.args.numbers.now)) (adds_then c.in_ok-print_numbers.ensures c.in_err-word.ensures)
-
 pub returns : goal.returns
-returns g c = rw (← rest_is (map signed_decimal c.args.numbers.now)) (adds_then c.in_ok-print_numbers.ensures c.in_ok-word.ensures)
+returns g c = rw (← rest_is (map signed_decimal c.args.numbers.now)) (adds_then c.in_ok-print_numbers.ensures c.word.ensures)

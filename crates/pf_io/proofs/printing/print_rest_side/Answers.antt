@@ -14,10 +14,5 @@ returns-in_err-print_side g c =
     let p = err_from_is_err_and c.from_residual-in_err-print_side.result c.from_residual-in_err-print_side.ensures.1 in
     rw p.1 (adds_then c.in_ok-word.ensures (adds_stopped (10 ∷ []) c.in_err-print_side.ensures))
 
-pub returns-in_err-word-2 : goal.returns-in_err-word-2
-returns-in_err-word-2 g c =
-    let p = err_from_is_err_and c.from_residual-in_err-word-2.result c.from_residual-in_err-word-2.ensures.1 in
-    rw p.1 (adds_then c.in_ok-word.ensures (adds_then c.in_ok-print_side.ensures c.in_err-word-2.ensures))
-
 pub returns : goal.returns
-returns g c = adds_then c.in_ok-word.ensures (adds_then c.in_ok-print_side.ensures c.in_ok-word-2.ensures)
+returns g c = adds_then c.in_ok-word.ensures (adds_then c.in_ok-print_side.ensures c.word-2.ensures)

@@ -1,22 +1,23 @@
-use Rattle.std.proofs.Common.{◌∙◌, arith}
+use Rattle.std.proofs.Common.{arith}
 use Rattle.std.specs.Prelude.{FitsSigned}
 use Rattle.std.specs.Int.{w128}
 use Rattle.std.proofs.lemmas.Int.{to_z-of_z}
 use Rattle.std.proofs.lemmas.Result.{err_from_is_err_and}
 use Rattle.pf_lines.proofs.SpellingLemmas.{fits_between}
-use Rattle.pf_lines.proofs.RowsTaken.{numbers_begin, number_taken, number_refused, numbers_shape, numbers_end, takes_nothing}
+use Rattle.pf_lines.proofs.ItemsTaken.{items_begin, item_taken, item_refused, items_end}
+use Rattle.pf_lines.proofs.RowsTaken.{number_items, numbers_stand}
 use Rattle.pf_lines.proofs.taking.take_numbers.Goals as goal
 
 pub numbers-init : goal.numbers-init
-numbers-init c = rw (c.in_ok-numbers.ensures.items, to_z-of_z w128 c.args.min c.ranges.min, to_z-of_z w128 c.args.max c.ranges.max) (numbers_begin c.args.width c.args.min c.args.max c.args.text.now)
+numbers-init c = rw (c.in_ok-numbers.ensures.items, to_z-of_z w128 c.args.min c.ranges.min, to_z-of_z w128 c.args.max c.ranges.max) (items_begin (number_items c.args.min c.args.max) c.args.width c.args.text.now)
 
 pub returns-in_err-number-clause-found : goal.returns-in_err-number-clause-found
 returns-in_err-number-clause-found c = λ numbers rest row stops there.
     let p = err_from_is_err_and c.from_residual-in_err-number.result c.from_residual-in_err-number.ensures.1 in
     let found = rw (to_z-of_z w128 c.args.min c.ranges.min, to_z-of_z w128 c.args.max c.ranges.max) at c.in_err-number.ensures.found in
     let so_far = rw (to_z-of_z w128 c.args.min c.ranges.min, to_z-of_z w128 c.args.max c.ranges.max) at c.numbers.invariant in
-    let memory = number_refused c.args.width c.args.min c.args.max c.args.text.now c.numbers.text c.take_number.new.text c.numbers._i c.numbers.numbers.items c.in_err-number.field-0.0 so_far c.numbers-test.true found numbers rest row stops there in
-    takes_nothing numbers rest c.take_number.new.text c.from_residual-in_err-number.result _ p.1 (p.2 ∙ memory)
+    rw (p.1, p.2) (item_refused (number_items c.args.min c.args.max) c.args.width c.args.text.now c.numbers.text c.numbers._i c.numbers.numbers.items c.in_err-number.field-0.0 so_far c.numbers-test.true
+    (λ n later is ok e. found n later is.low is.high ok e) numbers rest (numbers_stand c.args.width c.args.min c.args.max c.args.text.now numbers rest row stops there))
 
 pub numbers-preserved : goal.numbers-preserved
 numbers-preserved c =
@@ -25,8 +26,8 @@ numbers-preserved c =
     let fits : FitsSigned w128 c.in_ok-number.number = fits_between c.args.min c.args.max c.in_ok-number.number c.ranges.min c.ranges.max range.0 range.1 in
     let back = to_z-of_z w128 c.in_ok-number.number fits in
     let so_far = rw (to_z-of_z w128 c.args.min c.ranges.min, to_z-of_z w128 c.args.max c.ranges.max) at c.numbers.invariant in
-    rw (c.in_ok-push.ensures.items, back, to_z-of_z w128 c.args.min c.ranges.min, to_z-of_z w128 c.args.max c.ranges.max) (number_taken c.args.width c.args.min c.args.max c.args.text.now c.numbers.text c.take_number.new.text c.numbers._i c.numbers.numbers.items c.in_ok-number.number so_far c.numbers-test.true
-    c.in_ok-number.ensures.taken (record { low = range.0; high = range.1 }) found)
+    rw (c.in_ok-push.ensures.items, back, to_z-of_z w128 c.args.min c.ranges.min, to_z-of_z w128 c.args.max c.ranges.max) (item_taken (number_items c.args.min c.args.max) c.args.width c.args.text.now c.numbers.text c.take_number.new.text c.numbers._i c.numbers.numbers.items c.in_ok-number.number so_far c.numbers-test.true
+    c.in_ok-number.ensures.taken (record { low = range.0; high = range.1 }) (λ n later is ok e. found n later is.low is.high ok e))
 
 pub returns-clause-taken : goal.returns-clause-taken
 returns-clause-taken c = rw c.from_vec.ensures c.numbers.invariant.taken
@@ -34,9 +35,10 @@ returns-clause-taken c = rw c.from_vec.ensures c.numbers.invariant.taken
 pub returns-clause-shape : goal.returns-clause-shape
 returns-clause-shape c =
     let so_far = rw (to_z-of_z w128 c.args.min c.ranges.min, to_z-of_z w128 c.args.max c.ranges.max) at c.numbers.invariant in
-    rw c.from_vec.ensures (numbers_shape c.args.width c.args.min c.args.max c.args.text.now c.numbers.text c.numbers._i c.numbers.numbers.items so_far (omega arith))
+    rw c.from_vec.ensures (record { full = omega (arith, so_far.number); each = so_far.each })
 
 pub returns-clause-found : goal.returns-clause-found
-returns-clause-found c =
+returns-clause-found c = λ numbers rest row stops there.
     let so_far = rw (to_z-of_z w128 c.args.min c.ranges.min, to_z-of_z w128 c.args.max c.ranges.max) at c.numbers.invariant in
-    rw c.from_vec.ensures (numbers_end c.args.width c.args.min c.args.max c.args.text.now c.numbers.text c.numbers._i c.numbers.numbers.items so_far (omega arith))
+    rw c.from_vec.ensures (items_end (number_items c.args.min c.args.max) c.args.width c.args.text.now c.numbers.text c.numbers._i c.numbers.numbers.items so_far (omega arith)
+    numbers rest (numbers_stand c.args.width c.args.min c.args.max c.args.text.now numbers rest row stops there))

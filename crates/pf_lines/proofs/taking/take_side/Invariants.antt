@@ -1,6 +1,6 @@
-use Rattle.std.proofs.Common.{◌≡◌, length}
-use Rattle.pf_lines.proofs.SideTaken.{HasRead}
+use Rattle.pf_lines.proofs.ItemsTaken.{HasTaken}
+use Rattle.pf_lines.proofs.RowsTaken.{side_items}
 use Rattle.pf_lines.proofs.taking.take_side.Given as goal
 
 abbrev pub invariant-nodes : goal.invariant-nodes
-invariant-nodes l = record { count : length l.items.items ≡ l.counter; read : HasRead l.fn.text l.fn.nodes l.items.items l.text }
+invariant-nodes l = HasTaken side_items l.fn.nodes l.fn.text l.text l.counter l.items.items

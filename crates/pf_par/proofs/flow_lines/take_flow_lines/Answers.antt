@@ -1,23 +1,22 @@
-use Rattle.std.proofs.Common.{◌∙◌, arith}
+use Rattle.std.proofs.Common.{arith}
 use Rattle.std.proofs.lemmas.Result.{err_from_is_err_and}
-use Rattle.pf_par.proofs.FlowLineLemmas.{flows_begin, flow_taken, flow_refused, flows_end}
-use Rattle.pf_lines.proofs.RowsTaken.{takes_nothing}
+use Rattle.pf_lines.proofs.ItemsTaken.{items_begin, item_taken, item_refused, items_end}
+use Rattle.pf_par.proofs.FlowLineLemmas.{flow_items, flows_stand}
 use Rattle.pf_par.proofs.flow_lines.take_flow_lines.Goals as goal
 
 pub flows-init : goal.flows-init
-flows-init c = rw c.new-flows.ensures (flows_begin c.args.width c.args.count c.args.text.now)
+flows-init c = rw c.new-flows.ensures (items_begin (flow_items c.args.width) c.args.count c.args.text.now)
 
 pub returns-in_err-flow-clause-found : goal.returns-in_err-flow-clause-found
 returns-in_err-flow-clause-found c = λ flows rest full each there.
     let p = err_from_is_err_and c.from_residual.result c.from_residual.ensures.1 in
-    let memory = flow_refused c.args.width c.args.count c.args.text.now c.flows.text c.take_flow_line.new.text c.flows.j c.flows.flows c.in_err-flow.field-0.0 c.flows.invariant c.flows-test.true
-    c.in_err-flow.ensures.found flows rest full each there in
-    takes_nothing flows rest c.take_flow_line.new.text c.from_residual.result _ p.1 (p.2 ∙ memory)
+    rw (p.1, p.2) (item_refused (flow_items c.args.width) c.args.count c.args.text.now c.flows.text c.flows.j c.flows.flows c.in_err-flow.field-0.0 c.flows.invariant c.flows-test.true
+    (λ flow later row behind e. c.in_err-flow.ensures.found flow later row e) flows rest (flows_stand c.args.width c.args.count c.args.text.now flows rest full each there))
 
 pub flows-preserved : goal.flows-preserved
 flows-preserved c =
-    rw c.in_ok-add.ensures.added (flow_taken c.args.width c.args.count c.args.text.now c.flows.text c.take_flow_line.new.text c.flows.j c.flows.flows c.in_ok-flow.flow c.flows.invariant c.flows-test.true
-    c.in_ok-flow.ensures.taken c.in_ok-flow.ensures.shape c.in_ok-flow.ensures.found)
+    rw c.in_ok-push.ensures.added (item_taken (flow_items c.args.width) c.args.count c.args.text.now c.flows.text c.take_flow_line.new.text c.flows.j c.flows.flows c.in_ok-flow.flow c.flows.invariant c.flows-test.true
+    c.in_ok-flow.ensures.taken c.in_ok-flow.ensures.shape (λ flow later row behind e. c.in_ok-flow.ensures.found flow later row e))
 
 pub returns-clause-taken : goal.returns-clause-taken
 returns-clause-taken c = c.flows.invariant.taken
@@ -26,7 +25,9 @@ pub returns-clause-count : goal.returns-clause-count
 returns-clause-count c = omega (arith, c.flows.invariant.number)
 
 pub returns-clause-shape : goal.returns-clause-shape
-returns-clause-shape c = c.flows.invariant.rows
+returns-clause-shape c = c.flows.invariant.each
 
 pub returns-clause-found : goal.returns-clause-found
-returns-clause-found c = flows_end c.args.width c.args.count c.args.text.now c.flows.text c.flows.j c.flows.flows c.flows.invariant (omega arith)
+returns-clause-found c = λ flows rest full each there.
+    items_end (flow_items c.args.width) c.args.count c.args.text.now c.flows.text c.flows.j c.flows.flows c.flows.invariant (omega arith)
+    flows rest (flows_stand c.args.width c.args.count c.args.text.now flows rest full each there)

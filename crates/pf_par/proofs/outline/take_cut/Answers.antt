@@ -1,92 +1,57 @@
-use Rattle.std.proofs.Common.{◌≡◌, ◌++◌, ◌∷◌, ap, sym, ◌∙◌, refl, arith}
+use Rattle.std.proofs.Common.{◌≡◌, ◌∙◌, sym, ap, arith}
 use Rattle.std.proofs.lemmas.Int.{ints}
 use Rattle.std.proofs.lemmas.Result.{err_from_is_err_and}
 use Rattle.pf_model.specs.Network.{cut_a, cut_b}
-use Rattle.pf_text.specs.Spelling.{side_text}
-use Rattle.pf_par.proofs.CutBounds.{constant_size, slope_size}
-use Rattle.pf_par.proofs.OutlineLemmas.{behind_constant, behind_slope, cut_parts, both, not_both, cut_taken}
+use Rattle.pf_lines.specs.Taking.{IsExcused}
+use Rattle.pf_par.proofs.OutlineLemmas.{first_number, second_number, both_numbers, told, not_told, cut_taken}
 use Rattle.pf_par.proofs.outline.take_cut.Goals as goal
 
 pub returns-in_err-a-clause-found : goal.returns-in_err-a-clause-found
 returns-in_err-a-clause-found c = λ side rest cut e.
     let p = err_from_is_err_and c.from_residual.result c.from_residual.ensures.1 in
-    let net = c.args.net.now in
-    let size = constant_size net side c.frame.ensures.built in
-    rw (p.1, p.2) (c.in_err-a.ensures.found (cut_a net side) (behind_constant net side rest) (omega (arith, ints, size.low)) (omega (arith, ints, size.high)) refl (e ∙ cut_parts net side rest))
+    rw (p.1, p.2) (first_number c.args.net.now side rest c.args.text.now (λ n later. IsExcused c.in_err-a.field-0.0) c.frame.ensures.built c.in_err-a.ensures.found e)
 
 pub returns-in_err-b-clause-found : goal.returns-in_err-b-clause-found
 returns-in_err-b-clause-found c = λ side rest cut e.
     let p = err_from_is_err_and c.from_residual-in_err-b.result c.from_residual-in_err-b.ensures.1 in
-    let net = c.args.net.now in
-    let size = constant_size net side c.frame.ensures.built in
-    let slope = slope_size net side c.frame.ensures.built in
-    let a = c.in_ok-a.ensures.found (cut_a net side) (behind_constant net side rest) (omega (arith, ints, size.low)) (omega (arith, ints, size.high)) refl (e ∙ cut_parts net side rest) in
-    rw (p.1, p.2) (c.in_err-b.ensures.found (cut_b net side) (behind_slope side rest) (omega (arith, ints, slope.low)) (omega (arith, ints, slope.high)) refl a.1)
-
-pub returns-in_err-take_word-clause-found : goal.returns-in_err-take_word-clause-found
-returns-in_err-take_word-clause-found c = λ side rest cut e.
-    let p = err_from_is_err_and c.from_residual-in_err-take_word.result c.from_residual-in_err-take_word.ensures.1 in
-    let net = c.args.net.now in
-    let size = constant_size net side c.frame.ensures.built in
-    let slope = slope_size net side c.frame.ensures.built in
-    let a = c.in_ok-a.ensures.found (cut_a net side) (behind_constant net side rest) (omega (arith, ints, size.low)) (omega (arith, ints, size.high)) refl (e ∙ cut_parts net side rest) in
-    let b = c.in_ok-b.ensures.found (cut_b net side) (behind_slope side rest) (omega (arith, ints, slope.low)) (omega (arith, ints, slope.high)) refl a.1 in
-    rw (p.1, p.2) (c.in_err-take_word.ensures.found (side_text side ++ 10 ∷ rest) b.1)
+    let first = first_number c.args.net.now side rest c.args.text.now (λ n later. (c.in_ok-a.a ≡ n) × (c.take_number.new.text ≡ later)) c.frame.ensures.built c.in_ok-a.ensures.found e in
+    rw (p.1, p.2) (second_number c.args.net.now side rest c.take_number.new.text (λ n later. IsExcused c.in_err-b.field-0.0) c.frame.ensures.built c.in_err-b.ensures.found first.1)
 
 pub returns-in_err-side-clause-found : goal.returns-in_err-side-clause-found
 returns-in_err-side-clause-found c = λ side rest cut e.
     let p = err_from_is_err_and c.from_residual-in_err-side.result c.from_residual-in_err-side.ensures.1 in
-    let net = c.args.net.now in
-    let size = constant_size net side c.frame.ensures.built in
-    let slope = slope_size net side c.frame.ensures.built in
-    let a = c.in_ok-a.ensures.found (cut_a net side) (behind_constant net side rest) (omega (arith, ints, size.low)) (omega (arith, ints, size.high)) refl (e ∙ cut_parts net side rest) in
-    let b = c.in_ok-b.ensures.found (cut_b net side) (behind_slope side rest) (omega (arith, ints, slope.low)) (omega (arith, ints, slope.high)) refl a.1 in
-    let word = c.in_ok-take_word.ensures.found (side_text side ++ 10 ∷ rest) b.1 in
-    rw (p.1, p.2) (c.in_err-side.ensures.found side (10 ∷ rest) cut word)
+    let line = both_numbers c.args.net.now side rest c.args.text.now c.take_number.new.text c.take_number-2.new.text c.in_ok-a.a c.in_ok-b.b c.frame.ensures.built c.in_ok-a.ensures.found c.in_ok-b.ensures.found e in
+    let full = cut.full ∙ sym (ap (λ graph. graph.nodes) c.frame.ensures.frame) ∙ sym c.nodes-nodes.ensures.value in
+    rw (p.1, p.2) (c.in_err-side.ensures.found side rest full line.behind)
 
-pub returns-in_err-take_word-2-clause-found : goal.returns-in_err-take_word-2-clause-found
-returns-in_err-take_word-2-clause-found c = λ side rest cut e.
-    let p = err_from_is_err_and c.from_residual-in_err-take_word-2.result c.from_residual-in_err-take_word-2.ensures.1 in
-    let net = c.args.net.now in
-    let size = constant_size net side c.frame.ensures.built in
-    let slope = slope_size net side c.frame.ensures.built in
-    let a = c.in_ok-a.ensures.found (cut_a net side) (behind_constant net side rest) (omega (arith, ints, size.low)) (omega (arith, ints, size.high)) refl (e ∙ cut_parts net side rest) in
-    let b = c.in_ok-b.ensures.found (cut_b net side) (behind_slope side rest) (omega (arith, ints, slope.low)) (omega (arith, ints, slope.high)) refl a.1 in
-    let word = c.in_ok-take_word.ensures.found (side_text side ++ 10 ∷ rest) b.1 in
-    let given = c.in_ok-side.ensures.found side (10 ∷ rest) cut word in
-    rw (p.1, p.2) (c.in_err-take_word-2.ensures.found rest given.1)
+pub returns-then-is_cut_of-clause-found : goal.returns-then-is_cut_of-clause-found
+returns-then-is_cut_of-clause-found c = λ side rest cut e.
+    let line = both_numbers c.args.net.now side rest c.args.text.now c.take_number.new.text c.take_number-2.new.text c.in_ok-a.a c.in_ok-b.b c.frame.ensures.built c.in_ok-a.ensures.found c.in_ok-b.ensures.found e in
+    let full = cut.full ∙ sym (ap (λ graph. graph.nodes) c.frame.ensures.frame) ∙ sym c.nodes-nodes.ensures.value in
+    c.in_ok-side.ensures.found side rest full line.behind
 
-pub returns-then-has_line-clause-found : goal.returns-then-has_line-clause-found
-returns-then-has_line-clause-found c = λ side rest cut e.
-    let net = c.args.net.now in
-    let size = constant_size net side c.frame.ensures.built in
-    let slope = slope_size net side c.frame.ensures.built in
-    let a = c.in_ok-a.ensures.found (cut_a net side) (behind_constant net side rest) (omega (arith, ints, size.low)) (omega (arith, ints, size.high)) refl (e ∙ cut_parts net side rest) in
-    let b = c.in_ok-b.ensures.found (cut_b net side) (behind_slope side rest) (omega (arith, ints, slope.low)) (omega (arith, ints, slope.high)) refl a.1 in
-    let word = c.in_ok-take_word.ensures.found (side_text side ++ 10 ∷ rest) b.1 in
-    let given = c.in_ok-side.ensures.found side (10 ∷ rest) cut word in
-    (given.0, c.in_ok-take_word-2.ensures.found rest given.1)
-
+-- the test says no, and it is a cut with this line
 pub returns-clause-found : goal.returns-clause-found
 returns-clause-found c = λ side rest cut e.
     let net = c.args.net.now in
-    let size = constant_size net side c.frame.ensures.built in
-    let slope = slope_size net side c.frame.ensures.built in
-    let a = c.in_ok-a.ensures.found (cut_a net side) (behind_constant net side rest) (omega (arith, ints, size.low)) (omega (arith, ints, size.high)) refl (e ∙ cut_parts net side rest) in
-    let b = c.in_ok-b.ensures.found (cut_b net side) (behind_slope side rest) (omega (arith, ints, slope.low)) (omega (arith, ints, slope.high)) refl a.1 in
-    let word = c.in_ok-take_word.ensures.found (side_text side ++ 10 ∷ rest) b.1 in
-    let given = c.in_ok-side.ensures.found side (10 ∷ rest) cut word in
-    let got : c.get.result.now ≡ c.in_ok-side.side = c.get.ensures in
-    let yes_a : c.in_ok-a.a ≡ cut_a net c.get.result.now = a.0 ∙ ap (cut_a net) (sym (got ∙ given.0)) in
-    let yes_b : c.in_ok-b.b ≡ cut_b net c.get.result.now = b.0 ∙ ap (cut_b net) (sym (got ∙ given.0)) in
-    let low = c.in_ok-a.ensures.range in
-    not_both c.has_line.result c.in_ok-a.a c.in_ok-b.b _ _ yes_a yes_b (omega (arith, ints, low.0)) (omega (arith, ints, low.1)) (omega (arith, ints, c.in_ok-b.ensures.range.0)) (omega (arith, ints, c.in_ok-b.ensures.range.1)) c.has_line.ensures c.if-has_line.false
+    let line = both_numbers net side rest c.args.text.now c.take_number.new.text c.take_number-2.new.text c.in_ok-a.a c.in_ok-b.b c.frame.ensures.built c.in_ok-a.ensures.found c.in_ok-b.ensures.found e in
+    let full = cut.full ∙ sym (ap (λ graph. graph.nodes) c.frame.ensures.frame) ∙ sym c.nodes-nodes.ensures.value in
+    let given = c.in_ok-side.ensures.found side rest full line.behind in
+    let same = c.get.ensures ∙ given.0 in
+    let range_a = c.in_ok-a.ensures.range in
+    let range_b = c.in_ok-b.ensures.range in
+    not_told net c.get.result.now c.is_cut_of.result c.in_ok-a.a c.in_ok-b.b (rw same cut) (line.a ∙ ap (cut_a net) (sym same)) (line.b ∙ ap (cut_b net) (sym same))
+    (record { low = omega (arith, ints, range_a.0); high = omega (arith, ints, range_a.1) }) (record { low = omega (arith, ints, range_b.0); high = omega (arith, ints, range_b.1) }) c.is_cut_of.ensures c.if-is_cut_of.false
 
-pub returns-then-has_line-clause-taken : goal.returns-then-has_line-clause-taken
-returns-then-has_line-clause-taken c =
+pub returns-then-is_cut_of-clause-shape : goal.returns-then-is_cut_of-clause-shape
+returns-then-is_cut_of-clause-shape c = rw c.get.ensures at (c.is_cut_of.ensures.0 c.if-is_cut_of.true).0
+
+pub returns-then-is_cut_of-clause-taken : goal.returns-then-is_cut_of-clause-taken
+returns-then-is_cut_of-clause-taken c =
     let net = c.args.net.now in
-    let low = c.in_ok-a.ensures.range in
-    let got : c.get.result.now ≡ c.in_ok-side.side = c.get.ensures in
-    let same = both c.has_line.result c.in_ok-a.a c.in_ok-b.b _ _ (omega (arith, ints, low.0)) (omega (arith, ints, low.1)) (omega (arith, ints, c.in_ok-b.ensures.range.0)) (omega (arith, ints, c.in_ok-b.ensures.range.1)) c.has_line.ensures c.if-has_line.true in
-    cut_taken net c.in_ok-side.side c.in_ok-a.a c.in_ok-b.b c.args.text.now c.take_number.new.text c.take_number-2.new.text c.take_word.new.text c.take_cut_side.new.text c.take_word-2.new.text
-    (same.0 ∙ ap (cut_a net) got) (same.1 ∙ ap (cut_b net) got) c.in_ok-a.ensures.taken c.in_ok-b.ensures.taken c.in_ok-take_word.ensures.taken c.in_ok-side.ensures.taken c.in_ok-take_word-2.ensures.taken
+    let range_a = c.in_ok-a.ensures.range in
+    let range_b = c.in_ok-b.ensures.range in
+    let t = told net c.get.result.now c.is_cut_of.result c.in_ok-a.a c.in_ok-b.b (record { low = omega (arith, ints, range_a.0); high = omega (arith, ints, range_a.1) })
+    (record { low = omega (arith, ints, range_b.0); high = omega (arith, ints, range_b.1) }) c.is_cut_of.ensures c.if-is_cut_of.true in
+    cut_taken net c.in_ok-side.side c.in_ok-a.a c.in_ok-b.b c.args.text.now c.take_number.new.text c.take_number-2.new.text c.take_rest_side.new.text
+    (t.1 ∙ ap (cut_a net) c.get.ensures) (t.2 ∙ ap (cut_b net) c.get.ensures) c.in_ok-a.ensures.taken c.in_ok-b.ensures.taken c.in_ok-side.ensures.taken

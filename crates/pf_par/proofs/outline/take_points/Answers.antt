@@ -13,7 +13,7 @@ returns-in_err-first-clause-found c = λ o rest shape full e.
 pub segments-init : goal.segments-init
 segments-init c =
     rw c.in_ok-outline.ensures.begun
-    (begins c.args.net.now c.args.text.now c.args.count c.in_ok-first.first c.take_point_line.new.text c.in_ok-first.ensures.shape c.in_ok-first.ensures.taken c.in_ok-first.ensures.found)
+    (begins c.args.net.now c.args.text.now c.args.count c.in_ok-first.first c.take_valued_row.new.text c.in_ok-first.ensures.shape c.in_ok-first.ensures.taken c.in_ok-first.ensures.found)
 
 pub returns-in_err-segment-clause-found : goal.returns-in_err-segment-clause-found
 returns-in_err-segment-clause-found c = λ o rest shape full e.

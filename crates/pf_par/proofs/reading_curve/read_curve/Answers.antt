@@ -3,7 +3,7 @@ use Rattle.std.proofs.lemmas.List.{append-nil}
 use Rattle.std.proofs.lemmas.Result.{err_from_is_err_and}
 use Rattle.pf_par.specs.Answers.{curve_text}
 use Rattle.pf_par.specs.CurveParts.{parts_text}
-use Rattle.pf_lines.proofs.RowsTaken.{only_memory, not_refused}
+use Rattle.pf_lines.specs.declared.errors.AnswerBad.TheVariants.{NotText}
 use Rattle.pf_par.proofs.CurveReadingLemmas.{parts_of, parts_shape, nothing_behind, parts_of_curve, values_are}
 use Rattle.pf_par.proofs.reading_curve.read_curve.Goals as goal
 
@@ -11,9 +11,9 @@ pub returns-in_err-outline-clause-refused : goal.returns-in_err-outline-clause-r
 returns-in_err-outline-clause-refused c = λ e curve shape there.
     let p = err_from_is_err_and c.from_residual.result c.from_residual.ensures.1 in
     let parts = parts_of c.args.net.now curve in
-    let memory = only_memory parts [] c.take_parts.new.text c.in_err-outline.field-0.0
-    (c.in_err-outline.ensures.found parts [] (parts_shape c.args.net.now curve c.frame.ensures.built.limits.arcs shape) (c.new-rest.ensures ∙ nothing_behind c.args.net.now c.args.text.now curve there)) in
-    not_refused c.from_residual.result _ p.1 (p.2 ∙ memory) e
+    let excused = c.in_err-outline.ensures.found parts [] (parts_shape c.args.net.now curve c.frame.ensures.built.limits.arcs shape) (c.new-rest.ensures ∙ nothing_behind c.args.net.now c.args.text.now curve there) in
+    let same : c.in_err-outline.field-0.0 ≡ NotText = cc in
+    rw same at excused
 
 pub returns-then-not-is_at_end-clause-refused : goal.returns-then-not-is_at_end-clause-refused
 returns-then-not-is_at_end-clause-refused c = λ e curve shape there.

@@ -12,13 +12,13 @@ flows-init g c = printed_begin c.args.out.now _ c.requires
 pub flows-preserved : goal.flows-preserved
 flows-preserved g c =
     let low : c.flows.j < length c.args.curve.now.flows = omega (arith, c.points-flows.ensures.flow_count, ap length c.points-flows.ensures.points) in
-    printed_more c.flows.invariant (flows_text_at c.flows.j c.args.curve.now.flows low) (rw c.flow.ensures at c.in_ok-print_numbered_line.ensures)
+    printed_more c.flows.invariant (flows_text_at c.flows.j c.args.curve.now.flows low) (rw c.flow.ensures at c.in_ok-print_row.ensures)
 
-pub returns-in_err-print_numbered_line : goal.returns-in_err-print_numbered_line
-returns-in_err-print_numbered_line g c =
+pub returns-in_err-print_row : goal.returns-in_err-print_row
+returns-in_err-print_row g c =
     let p = err_from_is_err_and c.from_residual.result c.from_residual.ensures.1 in
     let low : c.flows.j < length c.args.curve.now.flows = omega (arith, c.points-flows.ensures.flow_count, ap length c.points-flows.ensures.points) in
-    rw p.1 (printed_stopped _ c.flows.invariant (flows_text_at c.flows.j c.args.curve.now.flows low) (rw c.flow.ensures at c.in_err-print_numbered_line.ensures))
+    rw p.1 (printed_stopped _ c.flows.invariant (flows_text_at c.flows.j c.args.curve.now.flows low) (rw c.flow.ensures at c.in_err-print_row.ensures))
 
 pub returns : goal.returns
 returns g c =

@@ -5,25 +5,17 @@ use Rattle.pf_par.specs.Answers.{segments_text}
 use Rattle.pf_par.proofs.WritingLemmas.{points_text_is}
 use Rattle.pf_par.proofs.writing.print_points.Goals as goal
 
-pub returns-in_err-print_point_line : goal.returns-in_err-print_point_line
-returns-in_err-print_point_line g c =
+pub returns-in_err-print_point : goal.returns-in_err-print_point
+returns-in_err-print_point g c =
     let p = err_from_is_err_and c.from_residual.result c.from_residual.ensures.1 in
     let at : c.index-points-0.result ≡ get_or c.args.curve.now.points 0 c.index-points-0.result = rw c.points.ensures.points at c.index-points-0.is in
     let whole = points_text_is c.args.net.now c.args.curve.now.cuts c.args.curve.now.points c.args.curve.now.flows c.index-points-0.result
     (omega (arith, c.requires.shape.count)) (omega (arith, c.requires.shape.count, c.requires.shape.flow_count)) in
-    rw (p.1, ← whole) (adds_stopped (segments_text c.args.net.now 1 c.args.curve.now.cuts (drop 1 c.args.curve.now.points) (drop 1 c.args.curve.now.flows)) (rw (at, c.flow.ensures) at c.in_err-print_point_line.ensures))
-
-pub returns-in_err-print_segments : goal.returns-in_err-print_segments
-returns-in_err-print_segments g c =
-    let p = err_from_is_err_and c.from_residual-in_err-print_segments.result c.from_residual-in_err-print_segments.ensures.1 in
-    let at : c.index-points-0.result ≡ get_or c.args.curve.now.points 0 c.index-points-0.result = rw c.points.ensures.points at c.index-points-0.is in
-    let whole = points_text_is c.args.net.now c.args.curve.now.cuts c.args.curve.now.points c.args.curve.now.flows c.index-points-0.result
-    (omega (arith, c.requires.shape.count)) (omega (arith, c.requires.shape.count, c.requires.shape.flow_count)) in
-    rw (p.1, ← whole) (adds_then (rw (at, c.flow.ensures) at c.in_ok-print_point_line.ensures) c.in_err-print_segments.ensures)
+    rw (p.1, ← whole) (adds_stopped (segments_text c.args.net.now 1 c.args.curve.now.cuts (drop 1 c.args.curve.now.points) (drop 1 c.args.curve.now.flows)) (rw (at, c.flow.ensures) at c.in_err-print_point.ensures))
 
 pub returns : goal.returns
 returns g c =
     let at : c.index-points-0.result ≡ get_or c.args.curve.now.points 0 c.index-points-0.result = rw c.points.ensures.points at c.index-points-0.is in
     let whole = points_text_is c.args.net.now c.args.curve.now.cuts c.args.curve.now.points c.args.curve.now.flows c.index-points-0.result
     (omega (arith, c.requires.shape.count)) (omega (arith, c.requires.shape.count, c.requires.shape.flow_count)) in
-    rw (← whole) (adds_then (rw (at, c.flow.ensures) at c.in_ok-print_point_line.ensures) c.in_ok-print_segments.ensures)
+    rw (← whole) (adds_then (rw (at, c.flow.ensures) at c.in_ok-print_point.ensures) c.print_segments.ensures)

@@ -7,15 +7,10 @@ use Rattle.std.proofs.lemmas.Result.{err_from_is_err_and}
 use Rattle.pf_io.proofs.PrintingLemmas.{adds_then, adds_stopped}
 use Rattle.pf_par.proofs.writing.print_segment.Goals as goal
 
-pub returns-in_err-print_cut_line : goal.returns-in_err-print_cut_line
-returns-in_err-print_cut_line g c =
+pub returns-in_err-print_cut : goal.returns-in_err-print_cut
+returns-in_err-print_cut g c =
     let p = err_from_is_err_and c.from_residual.result c.from_residual.ensures.1 in
-    rw p.1 (adds_stopped {T = Unit {0}} (line (codes "b" ∷ decimal c.args.i ∷ point_fields c.args.net.now c.args.at.now c.args.flow.now)) c.in_err-print_cut_line.ensures)
-
-pub returns-in_err-print_point_line : goal.returns-in_err-print_point_line
-returns-in_err-print_point_line g c =
-    let p = err_from_is_err_and c.from_residual-in_err-print_point_line.result c.from_residual-in_err-print_point_line.ensures.1 in
-    rw p.1 (adds_then c.in_ok-print_cut_line.ensures c.in_err-print_point_line.ensures)
+    rw p.1 (adds_stopped {T = Unit {0}} (line (codes "b" ∷ decimal c.args.i ∷ point_fields c.args.net.now c.args.at.now c.args.flow.now)) c.in_err-print_cut.ensures)
 
 pub returns : goal.returns
-returns g c = adds_then c.in_ok-print_cut_line.ensures c.in_ok-print_point_line.ensures
+returns g c = adds_then c.in_ok-print_cut.ensures c.print_point.ensures

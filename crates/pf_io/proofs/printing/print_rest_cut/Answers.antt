@@ -1,0 +1,15 @@
+use Rattle.std.proofs.Common.{◌∷◌, [], map}
+use Rattle.std.specs.Fmt.{signed_decimal}
+use Rattle.std.proofs.lemmas.Result.{err_from_is_err_and}
+use Rattle.pf_io.proofs.PrintingLemmas.{adds_then, adds_stopped}
+use Rattle.pf_text.specs.Spelling.{side_text, rest_of_line}
+use Rattle.pf_text.proofs.SpellingLemmas.{rest-append}
+use Rattle.pf_io.proofs.printing.print_rest_cut.Goals as goal
+
+pub returns-in_err-print_numbers : goal.returns-in_err-print_numbers
+returns-in_err-print_numbers g c =
+    let p = err_from_is_err_and c.from_residual.result c.from_residual.ensures.1 in
+    rw (p.1, ← rest-append (map signed_decimal c.args.numbers.now) (side_text c.args.side.now ∷ [])) (adds_stopped (rest_of_line (side_text c.args.side.now ∷ [])) c.in_err-print_numbers.ensures)
+
+pub returns : goal.returns
+returns g c = rw (← rest-append (map signed_decimal c.args.numbers.now) (side_text c.args.side.now ∷ [])) (adds_then c.in_ok-print_numbers.ensures c.print_rest_side.ensures)
