@@ -1,0 +1,17 @@
+pub mod ItemSums
+pub mod Soundness
+pub mod OneAnswer
+pub mod DropLemmas
+pub mod NetLemmas
+pub mod LeastCuts
+pub mod ArcLemmas
+pub mod Routing
+pub mod NewtonSteps
+pub mod Examples
+pub mod RatioLemmas
+pub mod SideSums
+pub mod NetBuilt
+pub mod TextLemmas
+pub mod TextLaw
+pub mod GatheringLemmas
+pub mod SameAnswers

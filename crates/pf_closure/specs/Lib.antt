@@ -1,0 +1,11 @@
+pub mod Problem
+pub mod Certificate
+pub mod Text
+pub mod Right
+pub mod Refused
+pub mod Gathered
+pub mod Dropping
+pub mod Reduction
+pub mod Newton
+pub mod Laws
+pub mod Worked
