@@ -1,0 +1,13 @@
+pub mod VertexSums
+pub mod ChargeSums
+pub mod Soundness
+pub mod OneAnswer
+pub mod ChargingLemmas
+pub mod DropLemmas
+pub mod NetLemmas
+pub mod NewtonSteps
+pub mod FlowCharges
+pub mod WeighingLemmas
+pub mod ArcLemmas
+pub mod DensityLemmas
+pub mod NetBuilt

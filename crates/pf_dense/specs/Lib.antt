@@ -1,0 +1,9 @@
+pub mod Densest
+pub mod Certificate
+pub mod Answer
+pub mod Dropping
+pub mod Reduction
+pub mod Newton
+pub mod Weighing
+pub mod Carrying
+pub mod Laws

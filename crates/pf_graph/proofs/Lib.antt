@@ -1,0 +1,13 @@
+pub mod Counting
+pub mod Classes
+pub mod Supermodular
+pub mod Merging
+pub mod Refinement
+pub mod Levels
+pub mod SamePartition
+pub mod Principal
+pub mod Numbering
+pub mod ByRule
+pub mod EdgeSums
+pub mod Rows
+pub mod WorkedOut
