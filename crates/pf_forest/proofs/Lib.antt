@@ -1,0 +1,15 @@
+pub mod Holding
+pub mod Tree
+pub mod Walk
+pub mod Sets
+pub mod Sparse
+pub mod Putting
+pub mod Joining
+pub mod Marks
+pub mod Raise
+pub mod Splits
+pub mod Law
+pub mod Filling
+pub mod Standing
+pub mod Bounds
+pub mod Giving

@@ -1,0 +1,5 @@
+pub mod Held
+pub mod Forest
+pub mod Filling
+pub mod Testing
+pub mod ForestLaws

@@ -1,0 +1,3 @@
+pub mod Principal
+pub mod Testing
+pub mod PrincipalLaws

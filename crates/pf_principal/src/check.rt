@@ -1,0 +1,149 @@
+// The test of a principal partition.
+ghost use Rattle.std.specs.Prelude.{◌≡◌, ℕ, ◌+◌, ◌*◌, ◌<◌, ◌≤◌, ◌↔◌, IsTrue, length};
+ghost use Rattle.std.specs.Bool.{OnTrue};
+ghost use Rattle.pf_model.specs.Fraction.{IsBelow};
+ghost use Rattle.pf_frame.specs.Lending.{row_at};
+ghost use Rattle.pf_frame.specs.Scratch.{Serves, KeepsPlaces};
+ghost use Rattle.pf_graph.specs.Labels.{parts};
+ghost use Rattle.pf_graph.specs.Best.{IsPrincipal, level_at, partition_at};
+ghost use Rattle.pf_principal.specs.Principal.{IsPrincipalShape, CertifiesPrincipal};
+ghost use Rattle.pf_principal.specs.Testing.{MeetsBoth, MeetsStep, MeetsSteps, HasEnds};
+
+use crate::Principal;
+use pf_forest::{are_splits, has_total, is_in_range};
+use pf_frame::{FlowTable, Scratch};
+use pf_graph::{Graph, Partition};
+use pf_rat::Rat;
+use std::cmp::Ordering;
+
+// Whether the first level is below the second.
+fn is_below(first: &Rat, second: &Rat) -> bool
+    ensures { IsTrue result ↔ IsBelow first.now second.now }
+{
+    match first.cmp(second) {
+        Ordering::Less => true,
+        Ordering::Equal => false,
+        Ordering::Greater => false,
+    }
+}
+
+// Whether level `j + 1` is above the one before; level 0 is 0.
+fn rises(levels: &[Rat], j: usize) -> bool
+    requires { j < length levels.now }
+    ensures { IsTrue result ↔ IsBelow (level_at levels.now j) (level_at levels.now (j + 1)) }
+{
+    if j == 0 {
+        0 < levels[0].p()
+    } else {
+        is_below(&levels[j - 1], &levels[j])
+    }
+}
+
+// Whether the forest condition holds with both partitions, for the splits from row `first` on.
+fn meets_both(
+    graph: &Graph,
+    level: &Rat,
+    vector: &[i128],
+    splits: &FlowTable,
+    first: usize,
+    left: &Partition,
+    right: &Partition,
+    scratch: &mut Scratch,
+) -> bool
+    requires vector { length vector.now ≡ length graph.now.ends }
+    requires rows { first + graph.now.nodes ≤ length splits.now }
+    requires full { (r : ℕ) → r < graph.now.nodes → length (row_at splits.now (first + r)) ≡ length graph.now.ends }
+    requires left { length left.now ≡ graph.now.nodes }
+    requires right { length right.now ≡ graph.now.nodes }
+    requires room { Serves scratch.old graph.now.nodes (length graph.now.ends) }
+    ensures exact { IsTrue result ↔ MeetsBoth graph.now level.now vector.now splits.now first left.now right.now }
+    ensures places { KeepsPlaces scratch.old scratch.new }
+{
+    let q = level.q();
+    prove!(q >= 1);
+    if level.p() < 0 {
+        return false;
+    }
+    if !is_in_range(graph, level, vector) {
+        return false;
+    }
+    if !has_total(graph, level, vector, left) {
+        return false;
+    }
+    if !has_total(graph, level, vector, right) {
+        return false;
+    }
+    are_splits(graph, level, vector, splits, first, scratch)
+}
+
+// Whether the first partition has fewer parts.
+fn has_fewer(left: &Partition, right: &Partition) -> bool
+    ensures { IsTrue result ↔ (parts left.now < parts right.now) }
+{
+    left.parts() < right.parts()
+}
+
+// Whether all that is asked of level `j + 1` and its neighbours holds.
+fn meets_step(graph: &Graph, answer: &Principal, j: usize, scratch: &mut Scratch) -> bool
+    requires shape { IsPrincipalShape graph.now answer.now }
+    requires level { j < length answer.now.levels }
+    requires room { Serves scratch.old graph.now.nodes (length graph.now.ends) }
+    ensures exact { IsTrue result ↔ MeetsStep graph.now answer.now j }
+    ensures places { KeepsPlaces scratch.old scratch.new }
+{
+    let nodes = graph.vertices() as usize;
+    let levels = answer.levels().get();
+    let partitions = answer.parts().get();
+    let splits = answer.splits();
+    let _rows = splits.rows();
+    if !rises(levels, j) {
+        return false;
+    }
+    let left = &partitions[j];
+    let right = &partitions[j + 1];
+    if !has_fewer(left, right) {
+        return false;
+    }
+    let vector = answer.vectors().row(j);
+    let first = j * nodes;
+    meets_both(
+        graph, &levels[j], vector, splits, first, left, right, scratch,
+    )
+}
+
+// Whether no weight crosses the first partition, and the last one has one part per vertex.
+fn has_ends(graph: &Graph, first: &Partition, last: &Partition) -> bool
+    requires { length first.now ≡ graph.now.nodes }
+    ensures { IsTrue result ↔ HasEnds graph.now first.now last.now }
+{
+    if graph.crossing(first) != 0 {
+        return false;
+    }
+    last.parts() == graph.vertices()
+}
+
+/// Whether the answer certifies itself: its levels are above 0 and rise, its numbers of parts rise, no weight crosses its first
+/// partition, its last one has one part per vertex, and at each level the forest condition holds with both neighbouring
+/// partitions. Then it is the principal partition of the graph. Any numbers may stand in the answer. It takes no memory; the
+/// scratch is working room, and keeps its places.
+pub fn check_principal(graph: &Graph, answer: &Principal, scratch: &mut Scratch) -> bool
+    requires shape { IsPrincipalShape graph.now answer.now }
+    requires room { Serves scratch.old graph.now.nodes (length graph.now.ends) }
+    ensures exact { IsTrue result ↔ CertifiesPrincipal graph.now answer.now }
+    ensures principal { OnTrue result (IsPrincipal graph.now answer.now.levels answer.now.partitions) }
+    ensures places { KeepsPlaces scratch.old scratch.new }
+{
+    // It tells the limits.
+    let _ = graph.frame();
+    let partitions = answer.parts().get();
+    let count = answer.levels().get().len();
+    if !has_ends(graph, &partitions[0], &partitions[count]) {
+        return false;
+    }
+    'levels: for j in 0..count {
+        if !meets_step(graph, answer, j, scratch) {
+            return false;
+        }
+    }
+    true
+}

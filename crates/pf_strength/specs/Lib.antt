@@ -1,0 +1,4 @@
+pub mod Strength
+pub mod Newton
+pub mod Testing
+pub mod StrengthLaws

@@ -1,0 +1,92 @@
+// The strength, with its certificate.
+ghost use Rattle.std.specs.Prelude.{◌≡◌, ◌≤◌, IfOk};
+ghost use Rattle.pf_graph.specs.Best.{IsStrength};
+ghost use Rattle.pf_strength.specs.Strength.{IsStrengthShape, CertifiesStrength};
+
+use crate::newton::find;
+use pf_forest::Forest;
+use pf_frame::{FlowTable, NoMemory, Numbers};
+use pf_graph::{Graph, Partition};
+use pf_rat::Rat;
+use std::alloc::Global;
+use std::marker::Model;
+
+/// A level `P/Q`, a partition, a vector indexed by edges, and a split for each vertex as a root, indexed by roots and then by
+/// edges. Vector and splits are in units of `1/Q`; a split tells what the first end of each edge gets of its number.
+#[derive(Drop)]
+pub struct Strength {
+    level: Rat,
+    parts: Partition,
+    vector: Numbers,
+    splits: FlowTable,
+}
+
+impl Model for Strength {
+    ghost use Rattle.pf_strength.specs.Strength.{StrengthAnswer};
+
+    ghost Value = { StrengthAnswer };
+
+    ghost view = { λ s. record { level = s.level; parts = s.parts; vector = s.vector; splits = s.splits } };
+}
+
+impl Strength {
+    /// The answer of these fields, whatever they hold. It takes no memory.
+    pub fn new(level: Rat, parts: Partition, vector: Numbers, splits: FlowTable) -> Strength
+        ensures { result ≡ record { level = level; parts = parts; vector = vector; splits = splits } }
+    {
+        Strength {
+            level,
+            parts,
+            vector,
+            splits,
+        }
+    }
+
+    /// The strength of a graph: the least ratio of crossing weight to the number of parts less one over all partitions into at
+    /// least two parts, a partition that attains it, and the certificate (Cunningham 1985; found by Newton's iteration over
+    /// forests). The strength of a graph that is not connected is 0. `NoMemory` where memory was not found.
+    pub fn of(alloc: Global, graph: &Graph) -> Result<Strength, NoMemory>
+        requires { 2 ≤ graph.now.nodes }
+        ensures shape { IfOk result (λ answer. IsStrengthShape graph.now answer) }
+        ensures certified { IfOk result (λ answer. CertifiesStrength graph.now answer) }
+        ensures strength { IfOk result (λ answer. IsStrength graph.now answer.level answer.parts) }
+    {
+        let mut forest = Forest::make(alloc, graph)?;
+        let mut parts = Partition::of(alloc, forest.partition().labels())?;
+        let level = find(graph, &mut forest, &mut parts);
+        let q = level.q();
+        prove!(q >= 1);
+        let vector = Numbers::from_vec(Vec::from_slice(alloc, forest.vector())?);
+        let mut splits = FlowTable::new(alloc);
+        forest.push_splits(alloc, &mut splits)?;
+        Ok(Strength::new(level, parts, vector, splits))
+    }
+
+    /// The level, in lowest terms.
+    pub fn level(&self) -> &Rat
+        ensures { result.now ≡ self.now.level }
+    {
+        &self.level
+    }
+
+    /// The partition; its labels are indexed by vertices.
+    pub fn parts(&self) -> &Partition
+        ensures { result.now ≡ self.now.parts }
+    {
+        &self.parts
+    }
+
+    /// The vector, indexed by edges, in units of `1/Q` of the level.
+    pub fn vector(&self) -> &Numbers
+        ensures { result.now ≡ self.now.vector }
+    {
+        &self.vector
+    }
+
+    /// The splits, indexed by roots and then by edges, in units of `1/Q` of the level.
+    pub fn splits(&self) -> &FlowTable
+        ensures { result.now ≡ self.now.splits }
+    {
+        &self.splits
+    }
+}
