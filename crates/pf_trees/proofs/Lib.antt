@@ -1,0 +1,16 @@
+pub mod Parts
+pub mod Spanning
+pub mod Bases
+pub mod Counts
+pub mod Filled
+pub mod Blocked
+pub mod Rows
+pub mod Steps
+pub mod Inserting
+pub mod Marking
+pub mod Tracing
+pub mod Begin
+pub mod Joining
+pub mod Whole
+pub mod WorkedOut
+pub mod TextRows

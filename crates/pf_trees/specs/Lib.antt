@@ -1,0 +1,10 @@
+pub mod Trees
+pub mod Sides
+pub mod Slots
+pub mod State
+pub mod Search
+pub mod Answer
+pub mod Finding
+pub mod Text
+pub mod Laws
+pub mod Worked

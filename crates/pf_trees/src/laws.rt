@@ -1,0 +1,32 @@
+//! The law of trees and partitions, and graphs worked by hand. Each is the contract of a function that does nothing.
+
+ghost use Rattle.pf_trees.specs.Laws.{NotBoth};
+ghost use Rattle.pf_trees.specs.Worked.{AreTwoTrees, FirstTree, SecondTree, CircleIsNoTree, SixCross, FourParts, ThreeTreesBlocked, TriangleBlocked, TwoPartsLetThrough, PairIsTwoTrees, PairIsNotThree};
+
+/// A graph has not both `k` spanning trees without a common edge and a partition that blocks them.
+pub fn not_both()
+    ensures { NotBoth }
+{}
+
+/// All edges between four vertices: two trees, and no three.
+pub fn four_vertices()
+    ensures trees { AreTwoTrees }
+    ensures first { FirstTree }
+    ensures second { SecondTree }
+    ensures circle { CircleIsNoTree }
+    ensures crossing { SixCross }
+    ensures parts { FourParts }
+    ensures blocked { ThreeTreesBlocked }
+{}
+
+/// Three edges between three vertices are not enough for two trees.
+pub fn three_vertices()
+    ensures blocked { TriangleBlocked }
+    ensures let_through { TwoPartsLetThrough }
+{}
+
+/// Two edges between the same two vertices are two trees, and not three.
+pub fn two_vertices()
+    ensures trees { PairIsTwoTrees }
+    ensures blocked { PairIsNotThree }
+{}
