@@ -1,0 +1,5 @@
+pub mod Rows
+mod Judging
+pub mod Accepted
+pub mod DrawnArcs
+pub mod SummaryLemmas
