@@ -1,0 +1,15 @@
+pub mod Grouping
+pub mod Worths
+pub mod Soundness
+pub mod OneSchedule
+pub mod Examples
+pub mod DropLemmas
+pub mod Slacks
+pub mod Gains
+pub mod PriceTests
+pub mod NetArcs
+pub mod NetBuilt
+pub mod NetFlows
+pub mod NetSides
+pub mod NetCuts
+pub mod CarriedBack

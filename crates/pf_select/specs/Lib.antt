@@ -1,0 +1,9 @@
+pub mod Problem
+pub mod Certificate
+pub mod Right
+pub mod Reduction
+pub mod Carried
+pub mod Dropping
+pub mod Tests
+pub mod Laws
+pub mod Worked
