@@ -11,7 +11,8 @@ use Rattle.pf_par.specs.Text.{par}
 use Rattle.pf_text.specs.Words.{parameter_of}
 use Rattle.pf_text.proofs.Rows.{text}
 use Rattle.pf_par.proofs.Rows.{two_lines, two}
-use Rattle.pf_top.specs.Task.{at, curve, answer, check}
+use Rattle.pf_top.specs.Job.{at, named, answer, check}
+use Rattle.pf_top.specs.declared.words.Name.TheVariants.{Curve}
 use Rattle.pf_top.specs.Asked.{usage, refused, accepted, command_of, asked}
 
 -- a parameter, and the same with a leading zero and not in lowest terms
@@ -71,12 +72,12 @@ comment_behind = refl
 
 -- the text of an answer behind the problem, also one that is no comment
 answer_behind : asked (codes "check" ∷ codes "curve" ∷ []) (text two_lines ++ text (codes "o curve" ∷ []))
-    ≡ accepted (check curve) two (text (codes "o curve" ∷ []))
+    ≡ accepted (check (named Curve)) two (text (codes "o curve" ∷ []))
 unfolding text raw_lines fields lines_from natural_of whole_of header step end_line problem_of par lowest parameter_of command_of asked
 answer_behind = refl
 
 no_answer_behind : asked (codes "check" ∷ codes "curve" ∷ []) (text two_lines)
-    ≡ accepted (check curve) two []
+    ≡ accepted (check (named Curve)) two []
 unfolding text raw_lines fields lines_from natural_of whole_of header step end_line problem_of par lowest parameter_of command_of asked
 no_answer_behind = refl
 

@@ -1,14 +1,17 @@
 -- The two numbers of a parameter, as the reader of fields gives them.
 use Rattle.std.proofs.Common.{◌≡◌, ℕ, to_z, of_z, ◌<◌, ◌≤◌, Bool, true, false, cond, eqb, get_or, List, [], ◌∷◌, Option, Some, None, Ok, Err, refl, sym, ap, ◌∙◌, arith}
 use Rattle.std.specs.Prelude.{ℤ, pos, neg_ℤ, ◌≤ℤ◌, int_le, nat_le, ◌&&◌, length, map}
-use Rattle.std.specs.Option.{option_map}
+use Rattle.std.specs.Option.{option_map, option_and_then}
 use Rattle.std.specs.Int.{w64}
 use Rattle.std.proofs.lemmas.Int.{ints}
 use Rattle.std.proofs.lemmas.Bool.Decides.{nat_tests}
 use Rattle.pf_model.specs.Fraction.{IsBoundedFraction, lowest}
 use Rattle.pf_text.specs.Numbers.{natural_of, whole_of, billion}
 use Rattle.pf_text.specs.Words.{natural_within, integer_within, fraction_of_numbers}
-use Rattle.pf_top.specs.Asked.{one_word, two_words, command_of}
+use Rattle.pf_top.specs.Job.{named, answer, check}
+use Rattle.pf_top.specs.declared.words.Name.{Name}
+use Rattle.pf_top.specs.declared.words.Name.TheVariants.{Curve}
+use Rattle.pf_top.specs.Asked.{beside, names, first_words, command_of}
 use Rattle.pf_text.proofs.NumbersLemmas.{whole_of-minus, whole_of-plain, natural_of-others}
 use Rattle.pf_top.specs.Words.{word_bytes, fraction_of_parts}
 use Rattle.std.specs.String.{string_bytes}
@@ -138,11 +141,11 @@ command_of_no_word : command_of [] ≡ None
 unfolding command_of
 command_of_no_word = refl
 
-command_of_one : (first : List ℕ) → command_of (first ∷ []) ≡ one_word first
+command_of_one : (first : List ℕ) → command_of (first ∷ []) ≡ option_map (λ name. answer (named name)) (beside names first)
 unfolding command_of
 command_of_one first = refl
 
-command_of_two : (first second : List ℕ) → command_of (first ∷ second ∷ []) ≡ two_words first second
+command_of_two : (first second : List ℕ) → command_of (first ∷ second ∷ []) ≡ option_and_then (λ read. read second) (beside first_words first)
 unfolding command_of
 command_of_two first second = refl
 
@@ -151,7 +154,7 @@ unfolding command_of
 command_of_many first second third others = refl
 
 pub command_of_pair : (words : List (String Global)) (first second : String Global) → 2 ≤ length words → length words < 3 → first ≡ get_or words 0 first → second ≡ get_or words 1 second
-    → command_of (word_bytes words) ≡ two_words (string_bytes first) (string_bytes second)
+    → command_of (word_bytes words) ≡ option_and_then (λ read. read (string_bytes second)) (beside first_words (string_bytes first))
 command_of_pair [] first second some few zeroth next = absurd (omega (arith, some))
 command_of_pair (a ∷ []) first second some few zeroth next = absurd (omega (arith, some))
 command_of_pair (a ∷ b ∷ []) first second some few zeroth next =
@@ -161,7 +164,7 @@ command_of_pair (a ∷ b ∷ []) first second some few zeroth next =
 command_of_pair (a ∷ b ∷ c ∷ words) first second some few zeroth next = absurd (omega (arith, few))
 
 pub command_of_single : (words : List (String Global)) (first : String Global) → 1 ≤ length words → length words < 2 → first ≡ get_or words 0 first
-    → command_of (word_bytes words) ≡ one_word (string_bytes first)
+    → command_of (word_bytes words) ≡ option_map (λ name. answer (named name)) (beside names (string_bytes first))
 command_of_single [] first some few zeroth = absurd (omega (arith, some))
 command_of_single (a ∷ []) first some few zeroth = let one : first ≡ a = zeroth in rw one (command_of_one (string_bytes a))
 command_of_single (a ∷ b ∷ words) first some few zeroth = absurd (omega (arith, few))

@@ -14,9 +14,11 @@ use Rattle.pf_text.specs.declared.TextBad.{TextBad}
 use Rattle.pf_text.specs.Kinds.{Accepted, problem_of}
 use Rattle.pf_text.specs.Verdict.{verdict_text, IsRightVerdict}
 use Rattle.pf_text.proofs.VerdictLemmas.{same_verdict}
-use Rattle.pf_top.specs.Task.{Name, task_of, ProblemOf, Command, answer, check, name_of}
+use Rattle.pf_top.specs.Job.{Row, job_of, ProblemOf, Command, answer, check, row_of}
 use Rattle.pf_top.specs.Asked.{Asked, usage, refused, accepted, unless, refusal_behind, refusal_of, asked_of_read, asked_of_bytes, asked, command_of, IsRight}
-use Rattle.pf_top.specs.Answering.{IsRefused}
+use Rattle.pf_top.specs.Answering.{IsRefused, status_of}
+use Rattle.pf_top.specs.declared.job.Stop.{Stop}
+use Rattle.pf_top.specs.declared.job.Stop.TheVariants as Stopped
 use Rattle.pf_top.specs.Messages.{TookLine, ErrAfter, status_line}
 use Rattle.pf_top.specs.Running.{IsAnswerTo, TookWhole, TookFront, Says, WasRead, SourceAfter, IsAfterReading, IsEnd, IsDue, IsRun}
 use Rattle.pf_top.specs.declared.status.Status.{Status}
@@ -104,7 +106,7 @@ unless_not_usage : (refusal : Option Refusal) (next : Asked) → next ≢ usage 
 unless_not_usage (Some refusal) next h = λ e. cc
 unless_not_usage None next h = h
 
-read_not_usage : (command : Command) (read : Result (Accepted (ProblemOf (name_of command))) TextBad) → asked_of_read command read ≢ usage
+read_not_usage : (command : Command) (read : Result (Accepted (ProblemOf (row_of command))) TextBad) → asked_of_read command read ≢ usage
 read_not_usage command (Err bad) = λ e. cc
 read_not_usage command (Ok read) =
     let last : accepted command read.problem read.rest ≢ usage = (λ e. cc) in
@@ -114,8 +116,8 @@ read_not_usage command (Ok read) =
 -- a command asks for something
 asks_something : (command : Command) (bytes : List ℕ) → asked_of_bytes command bytes ≢ usage
 asks_something command bytes =
-    let read = asked_of_read command (problem_of (task_of (name_of command)).kind bytes) in
-    either (nat_lt (2 ^ 29) (length bytes)) (refused refusals.TooLong) read (λ e. cc) (read_not_usage command (problem_of (task_of (name_of command)).kind bytes))
+    let read = asked_of_read command (problem_of (job_of (row_of command)).kind bytes) in
+    either (nat_lt (2 ^ 29) (length bytes)) (refused refusals.TooLong) read (λ e. cc) (read_not_usage command (problem_of (job_of (row_of command)).kind bytes))
 
 not_usage : (words : List (List ℕ)) (bytes : List ℕ) (command : Command) → command_of words ≡ Some command → asked words bytes ≢ usage
 not_usage words bytes command some = rw (asked_command words bytes command some) (asks_something command bytes)
@@ -134,30 +136,36 @@ end_refused O o command bytes refusal r = record { says = (r.asks, refl); out_co
 pub end_no_memory : {U : Type 0} (O : Sink U) (o : U) (command : Command) (bytes : List ℕ) → IsEnd O o o command bytes NoMemory
 end_no_memory O o command bytes = record { says = (asks_something command bytes, refl); out_count = omega arith; read = tt }
 
-pub end_answered : {U : Type 0} (O : Sink U) (oo on : U) (name : Name) (bytes : List ℕ) (problem : ProblemOf name) (rest text : List ℕ)
-    → asked_of_bytes (answer name) bytes ≡ accepted (answer name) problem rest → (task_of name).IsRight problem text
-    → O.faults oo ≤ O.faults on → TookWhole O oo on text → IsEnd O oo on (answer name) bytes Done
-end_answered O oo on name bytes problem rest text asks right later took = record {
+-- no answer was made
+pub end_stopped : {U : Type 0} (O : Sink U) (o : U) (command : Command) (bytes : List ℕ) (stop : Stop) → ((refusal : Refusal) → stop ≡ Stopped.Refused refusal → IsRefused command bytes refusal)
+    → IsEnd O o o command bytes (status_of stop)
+end_stopped O o command bytes (Stopped.Refused refusal) why = end_refused O o command bytes refusal (why refusal refl)
+end_stopped O o command bytes Stopped.NoMemory why = end_no_memory O o command bytes
+
+pub end_answered : {U : Type 0} (O : Sink U) (oo on : U) (row : Row) (bytes : List ℕ) (problem : ProblemOf row) (rest text : List ℕ)
+    → asked_of_bytes (answer row) bytes ≡ accepted (answer row) problem rest → (job_of row).IsRight problem text
+    → O.faults oo ≤ O.faults on → TookWhole O oo on text → IsEnd O oo on (answer row) bytes Done
+end_answered O oo on row bytes problem rest text asks right later took = record {
   says = (text, rw asks right, rw asks (λ no'. absurd no'), took);
   out_count = later;
   read = tt;
 }
 
-pub end_checked : {U : Type 0} (O : Sink U) (oo on : U) (name : Name) (bytes : List ℕ) (problem : ProblemOf name) (rest : List ℕ) (holds : Bool)
-    → asked_of_bytes (check name) bytes ≡ accepted (check name) problem rest → IsRightVerdict ((task_of name).Certifies problem rest) (verdict_text holds)
-    → O.faults oo ≤ O.faults on → TookWhole O oo on (verdict_text holds) → IsEnd O oo on (check name) bytes (if holds then Done else No)
-end_checked O oo on name bytes problem rest true asks right later took = record {
+pub end_checked : {U : Type 0} (O : Sink U) (oo on : U) (row : Row) (bytes : List ℕ) (problem : ProblemOf row) (rest : List ℕ) (holds : Bool)
+    → asked_of_bytes (check row) bytes ≡ accepted (check row) problem rest → IsRightVerdict ((job_of row).Certifies problem rest) (verdict_text holds)
+    → O.faults oo ≤ O.faults on → TookWhole O oo on (verdict_text holds) → IsEnd O oo on (check row) bytes (if holds then Done else No)
+end_checked O oo on row bytes problem rest true asks right later took = record {
   says = (verdict_text true, rw asks right, rw asks (λ no'. absurd (let same = same_verdict true false no' in cc)), took);
   out_count = later;
   read = tt;
 }
-end_checked O oo on name bytes problem rest false asks right later took = record {
+end_checked O oo on row bytes problem rest false asks right later took = record {
   says = (verdict_text false, rw asks right, rw asks refl, took);
   out_count = later;
   read = tt;
 }
 
-pub end_write_fault : {U : Type 0} (O : Sink U) (oo on : U) (command : Command) (bytes : List ℕ) (problem : ProblemOf (name_of command)) (rest text : List ℕ)
+pub end_write_fault : {U : Type 0} (O : Sink U) (oo on : U) (command : Command) (bytes : List ℕ) (problem : ProblemOf (row_of command)) (rest text : List ℕ)
     → asked_of_bytes command bytes ≡ accepted command problem rest → IsRight command problem rest text
     → O.faults oo ≤ O.faults on → Rose (O.faults oo) (O.faults on) → TookFront O oo on text → IsEnd O oo on command bytes WriteFault
 end_write_fault O oo on command bytes problem rest text asks right later rose took = record {
@@ -226,16 +234,16 @@ run_no_memory S so sn O o command words some gave later =
     }
 
 was_read : {T : Type 0} (S : Source T) (so sn : T) (bytes : List ℕ) (status : Status) → IsAfterReading status → Gave (S.left so) (S.left sn) bytes → NoneLeft (S.left sn) → length bytes ≤ 2 ^ 29
-    → WasRead S so sn status
-was_read S so sn bytes Done read gave ended short = ended
-was_read S so sn bytes No read gave ended short = ended
+    → WasRead S so sn bytes status
+was_read S so sn bytes Done read gave ended short = (gave, ended)
+was_read S so sn bytes No read gave ended short = (gave, ended)
 was_read S so sn bytes Usage read gave ended short = absurd read
-was_read S so sn bytes (Refused (refusals.Text bad)) read gave ended short = ended
+was_read S so sn bytes (Refused (refusals.Text bad)) read gave ended short = (gave, ended)
 was_read S so sn bytes (Refused refusals.TooLong) read gave ended short = absurd read
-was_read S so sn bytes (Refused refusals.Outside) read gave ended short = ended
-was_read S so sn bytes (Refused refusals.TooFine) read gave ended short = ended
+was_read S so sn bytes (Refused refusals.Outside) read gave ended short = (gave, ended)
+was_read S so sn bytes (Refused refusals.TooFine) read gave ended short = (gave, ended)
 was_read S so sn bytes ReadFault read gave ended short = absurd read
-was_read S so sn bytes WriteFault read gave ended short = ended
+was_read S so sn bytes WriteFault read gave ended short = (gave, ended)
 was_read S so sn bytes NoMemory read gave ended short = (bytes, gave, short)
 
 -- a command that had all its bytes
@@ -259,6 +267,6 @@ pub usage_by_words : {T U : Type 0} (S : Source T) (so sn : T) (O : Sink U) (oo 
     → (status ≡ Usage) ↔ (command_of words ≡ None)
 usage_by_words S so sn O oo on words status run = by (command_of words) refl run.source
   where
-    by : (command : Option Command) → command_of words ≡ command → SourceAfter S so sn command status → (status ≡ Usage) ↔ (command ≡ None)
+    by : (command : Option Command) → command_of words ≡ command → SourceAfter S so sn run.bytes command status → (status ≡ Usage) ↔ (command ≡ None)
     by None e after = (λ same. refl, λ same. after.0)
     by (Some command) e after = (λ same. absurd (rw same at after), λ same. absurd cc)

@@ -6,8 +6,12 @@ use Rattle.pf_text.specs.declared.Refusal.TheVariants.{Text, TooLong}
 use Rattle.pf_text.specs.Lines.{lines_from}
 use Rattle.pf_text.specs.Kinds.{problem_of_lines, problem_of}
 use Rattle.pf_lines.specs.Places.{Place, lines_left}
-use Rattle.pf_top.specs.Task.{Name, task_of, ProblemOf, Command}
+use Rattle.pf_top.specs.Job.{Row, job_of, ProblemOf, Command}
 use Rattle.pf_top.specs.Asked.{refused, asked_of_bytes}
+use Rattle.pf_top.specs.declared.job.Stop.{Stop}
+use Rattle.pf_top.specs.declared.job.Stop.TheVariants as Stopped
+use Rattle.pf_top.specs.declared.status.Status.{Status}
+use Rattle.pf_top.specs.declared.status.Status.TheVariants.{Refused, NoMemory}
 
 -- the bytes are refused, but not for their number
 pub record IsRefused (command : Command) (bytes : List ℕ) (refusal : Refusal) : Type 0 where
@@ -15,18 +19,23 @@ pub record IsRefused (command : Command) (bytes : List ℕ) (refusal : Refusal) 
   pub short : refusal ≢ TooLong
 
 -- the lines that are left at a place give the problem, and the other place is the one behind them
-pub record IsReadTo (name : Name) (before after : Place) (problem : ProblemOf name) : Type 0 where
-  pub judged : problem_of_lines (task_of name).kind (lines_left before) ≡ Ok (record { problem = problem; rest = after.rest; line = after.number })
+pub record IsReadTo (row : Row) (before after : Place) (problem : ProblemOf row) : Type 0 where
+  pub judged : problem_of_lines (job_of row).kind (lines_left before) ≡ Ok (record { problem = problem; rest = after.rest; line = after.number })
 
 -- they are refused
-pub record IsBadText (name : Name) (before : Place) (refusal : Refusal) : Type 0 where
+pub record IsBadText (row : Row) (before : Place) (refusal : Refusal) : Type 0 where
   pub bad : TextBad
-  pub judged : problem_of_lines (task_of name).kind (lines_left before) ≡ Err bad
+  pub judged : problem_of_lines (job_of row).kind (lines_left before) ≡ Err bad
   pub same : refusal ≡ Text bad
 
 -- the text is that of the problem, with no line behind it
-pub record IsProblemOf (name : Name) (bytes : List ℕ) (problem : ProblemOf name) : Type 0 where
+pub record IsProblemOf (row : Row) (bytes : List ℕ) (problem : ProblemOf row) : Type 0 where
   pub rest : List ℕ
   pub line : ℕ
-  pub text : problem_of (task_of name).kind bytes ≡ Ok (record { problem = problem; rest = rest; line = line })
+  pub text : problem_of (job_of row).kind bytes ≡ Ok (record { problem = problem; rest = rest; line = line })
   pub alone : lines_from (line + 1) rest ≡ []
+
+-- the status of a command that made no answer
+abbrev pub status_of : Stop → Status
+status_of (Stopped.Refused refusal) = Refused refusal
+status_of Stopped.NoMemory = NoMemory

@@ -1,6 +1,6 @@
 -- What the words and the bytes ask for: the first of the refusals that applies, or a command over a problem.
 use Rattle.std.specs.Prelude.{◌≡◌, ℕ, ◌+◌, ◌^◌, false, nat_lt, if◌then◌else◌, List, [], ◌∷◌, length, Option, Some, None, Result, Ok, Err, codes}
-use Rattle.std.specs.Option.{option_map}
+use Rattle.std.specs.Option.{option_map, option_and_then}
 use Rattle.std.specs.Str.{bytes_eq}
 use Rattle.pf_text.specs.declared.TextBad.{TextBad}
 use Rattle.pf_text.specs.declared.TextBad.TheVariants.{Syntax}
@@ -10,24 +10,30 @@ use Rattle.pf_text.specs.Lines.{Line, lines_from}
 use Rattle.pf_text.specs.Kinds.{Accepted, problem_of}
 use Rattle.pf_text.specs.Verdict.{verdict_text, IsRightVerdict}
 use Rattle.pf_text.specs.Words.{parameter_of}
-use Rattle.pf_top.specs.Task.{at, curve, task_of, ProblemOf, Command, answer, check, name_of}
+use Rattle.pf_top.specs.Job.{at, named, job_of, ProblemOf, Command, answer, check, row_of}
+use Rattle.pf_top.specs.declared.words.Name.{Name}
+use Rattle.pf_top.specs.declared.words.Name.TheVariants.{Curve, Closure}
 
-abbrev pub one_word : List ℕ → Option Command
-one_word first = if bytes_eq first (codes "curve") then Some (answer curve) else None
+-- what stands in a list beside the first word that is this one
+abbrev pub beside : {A : Type 0} → List (List ℕ × A) → List ℕ → Option A
+beside [] word = None
+beside (entry ∷ others) word = if bytes_eq word entry.0 then Some entry.1 else beside others word
 
--- what `check` is to check
-abbrev pub check_word : List ℕ → Option Command
-check_word second = if bytes_eq second (codes "curve") then Some (check curve) else None
+-- the names of jobs that a word alone asks for, and that `check` knows
+abbrev pub names : List (List ℕ × Name)
+names = (codes "curve", Curve) ∷ (codes "closure", Closure) ∷ []
 
-abbrev pub two_words : List ℕ → List ℕ → Option Command
-two_words first second =
-    if bytes_eq first (codes "at") then option_map (λ x. answer (at x)) (parameter_of second)
-    else (if bytes_eq first (codes "check") then check_word second else None)
+-- the words that have a second one behind them, and what both then ask for, if the second has its form
+abbrev pub first_words : List (List ℕ × (List ℕ → Option Command))
+first_words =
+    (codes "at", λ second. option_map (λ x. answer (at x)) (parameter_of second))
+    ∷ (codes "check", λ second. option_map (λ name. check (named name)) (beside names second))
+    ∷ []
 
 -- the command of the words, where they have one of its forms
 unfoldable pub command_of : List (List ℕ) → Option Command
-command_of (first ∷ []) = one_word first
-command_of (first ∷ second ∷ []) = two_words first second
+command_of (first ∷ []) = option_map (λ name. answer (named name)) (beside names first)
+command_of (first ∷ second ∷ []) = option_and_then (λ read. read second) (beside first_words first)
 command_of words = None
 
 -- the refusal of the first of these lines, where there is one
@@ -36,20 +42,20 @@ refusal_of_lines [] = None
 refusal_of_lines (line ∷ later) = Some (Text (Syntax line.number))
 
 -- what is refused of the text behind the problem: a line that is neither blank nor a comment, where no answer belongs there
-abbrev pub refusal_behind : (command : Command) → Accepted (ProblemOf (name_of command)) → Option Refusal
-refusal_behind (answer name) read = refusal_of_lines (lines_from (read.line + 1) read.rest)
-refusal_behind (check name) read = None
+abbrev pub refusal_behind : (command : Command) → Accepted (ProblemOf (row_of command)) → Option Refusal
+refusal_behind (answer row) read = refusal_of_lines (lines_from (read.line + 1) read.rest)
+refusal_behind (check row) read = None
 
 -- what the command refuses of a problem
-abbrev pub refusal_of : (command : Command) → ProblemOf (name_of command) → Option Refusal
-refusal_of (answer name) problem = (task_of name).refusal problem
-refusal_of (check name) problem = None
+abbrev pub refusal_of : (command : Command) → ProblemOf (row_of command) → Option Refusal
+refusal_of (answer row) problem = (job_of row).refusal problem
+refusal_of (check row) problem = None
 
 -- what is asked
 pub data Asked : Type 0 where
   usage : Asked
   refused : Refusal → Asked
-  accepted : (command : Command) → ProblemOf (name_of command) → List ℕ → Asked
+  accepted : (command : Command) → ProblemOf (row_of command) → List ℕ → Asked
 
 -- the refusal, where there is one, and else what follows
 abbrev pub unless : Option Refusal → Asked → Asked
@@ -57,7 +63,7 @@ unless (Some refusal) next = refused refusal
 unless None next = next
 
 -- what a command asks of the problem that its text gives
-abbrev pub asked_of_read : (command : Command) → Result (Accepted (ProblemOf (name_of command))) TextBad → Asked
+abbrev pub asked_of_read : (command : Command) → Result (Accepted (ProblemOf (row_of command))) TextBad → Asked
 asked_of_read command (Err bad) = refused (Text bad)
 asked_of_read command (Ok read) = unless (refusal_behind command read) (unless (refusal_of command read.problem) (accepted command read.problem read.rest))
 
@@ -65,7 +71,7 @@ asked_of_read command (Ok read) = unless (refusal_behind command read) (unless (
 abbrev pub asked_of_bytes : Command → List ℕ → Asked
 asked_of_bytes command bytes =
     if nat_lt (2 ^ 29) (length bytes) then refused TooLong
-    else asked_of_read command (problem_of (task_of (name_of command)).kind bytes)
+    else asked_of_read command (problem_of (job_of (row_of command)).kind bytes)
 
 -- what words of this form ask of the bytes
 abbrev pub asked_by : Option Command → List ℕ → Asked
@@ -77,11 +83,11 @@ unfoldable pub asked : List (List ℕ) → List ℕ → Asked
 asked words bytes = asked_by (command_of words) bytes
 
 -- The text is that of a right answer to the command for this problem, with this text behind it.
-abbrev pub IsRight : (command : Command) → ProblemOf (name_of command) → List ℕ → List ℕ → Type 0
-IsRight (answer name) problem rest text = (task_of name).IsRight problem text
-IsRight (check name) problem rest text = IsRightVerdict ((task_of name).Certifies problem rest) text
+abbrev pub IsRight : (command : Command) → ProblemOf (row_of command) → List ℕ → List ℕ → Type 0
+IsRight (answer row) problem rest text = (job_of row).IsRight problem text
+IsRight (check row) problem rest text = IsRightVerdict ((job_of row).Certifies problem rest) text
 
 -- the command asks for a verdict, and the text is that of `no`
 abbrev pub SaysNo : Command → List ℕ → Type 0
-SaysNo (answer name) text = ⊥
-SaysNo (check name) text = text ≡ verdict_text false
+SaysNo (answer row) text = ⊥
+SaysNo (check row) text = text ≡ verdict_text false

@@ -1,4 +1,4 @@
-pub mod Task
+pub mod Job
 pub mod Asked
 pub mod Words
 pub mod Messages

@@ -3,9 +3,9 @@ use Rattle.std.specs.Prelude.{◌≡◌, ◌≢◌, ◌⊎◌, ℕ, ◌+◌, ◌
 use Rattle.pf_io.specs.declared.device.Source.{Ghosts as Source}
 use Rattle.pf_io.specs.declared.device.Sink.{Ghosts as Sink}
 use Rattle.pf_io.specs.Faults.{Rose}
-use Rattle.pf_io.specs.Told.{GaveCount, Took, IsFrontOf, NoneLeft, after_told, told_length}
+use Rattle.pf_io.specs.Told.{Gave, GaveCount, Took, IsFrontOf, NoneLeft, after_told, told_length}
 use Rattle.pf_text.specs.declared.Refusal.TheVariants.{TooLong}
-use Rattle.pf_top.specs.Task.{Command}
+use Rattle.pf_top.specs.Job.{Command}
 use Rattle.pf_top.specs.Asked.{Asked, usage, refused, accepted, asked_of_bytes, asked, command_of, IsRight, SaysNo}
 use Rattle.pf_top.specs.declared.status.Status.{Status}
 use Rattle.pf_top.specs.declared.status.Status.TheVariants.{Done, No, Usage, Refused, ReadFault, WriteFault, NoMemory}
@@ -42,18 +42,18 @@ Says O old new ask WriteFault = (text : List ℕ) × IsAnswerTo ask text × Rose
 Says O old new ask NoMemory = (ask ≢ usage) × (new ≡ old)
 
 -- What a command that reads the source has left of it: after a read fault, and where memory was not found, at most 2^29
--- bytes are gone, with `TooLong` exactly one more, and with all others it was read to its end.
-abbrev pub WasRead : {T : Type 0} → Source T → T → T → Status → Type 0
-WasRead S old new ReadFault = Rose (S.faults old) (S.faults new) × GaveCount (S.left old) (S.left new) (λ n. n ≤ 2 ^ 29)
-WasRead S old new NoMemory = GaveCount (S.left old) (S.left new) (λ n. n ≤ 2 ^ 29)
-WasRead S old new (Refused TooLong) = GaveCount (S.left old) (S.left new) (λ n. n ≡ 2 ^ 29 + 1)
-WasRead S old new Usage = ⊥
-WasRead S old new status = NoneLeft (S.left new)
+-- bytes are gone, with `TooLong` exactly one more, and with all others it gave the whole input, and nothing is left.
+abbrev pub WasRead : {T : Type 0} → Source T → T → T → List ℕ → Status → Type 0
+WasRead S old new bytes ReadFault = Rose (S.faults old) (S.faults new) × GaveCount (S.left old) (S.left new) (λ n. n ≤ 2 ^ 29)
+WasRead S old new bytes NoMemory = GaveCount (S.left old) (S.left new) (λ n. n ≤ 2 ^ 29)
+WasRead S old new bytes (Refused TooLong) = GaveCount (S.left old) (S.left new) (λ n. n ≡ 2 ^ 29 + 1)
+WasRead S old new bytes Usage = ⊥
+WasRead S old new bytes status = Gave (S.left old) (S.left new) bytes × NoneLeft (S.left new)
 
--- What is left of the source, by the command. Words that are no command leave it as it was.
-abbrev pub SourceAfter : {T : Type 0} → Source T → T → T → Option Command → Status → Type 0
-SourceAfter S old new None status = (status ≡ Usage) × (new ≡ old)
-SourceAfter S old new (Some command) status = WasRead S old new status
+-- What is left of the source of this input, by the command. Words that are no command leave it as it was.
+abbrev pub SourceAfter : {T : Type 0} → Source T → T → T → List ℕ → Option Command → Status → Type 0
+SourceAfter S old new bytes None status = (status ≡ Usage) × (new ≡ old)
+SourceAfter S old new bytes (Some command) status = WasRead S old new bytes status
 
 -- the status that is due for what was asked
 abbrev pub IsDue : Asked → Status → Type 0
@@ -81,7 +81,7 @@ pub record IsRun {T U : Type 0} (S : Source T) (source_old source_new : T) (O : 
   pub told : IfSome (S.left source_old) (λ left. left ≡ bytes)
   -- what the status says, and what the sink of answers took
   pub says : Says O out_old out_new (asked words bytes) status
-  pub source : SourceAfter S source_old source_new (command_of words) status
+  pub source : SourceAfter S source_old source_new bytes (command_of words) status
   -- counts of faults never fall
   pub source_count : S.faults source_old ≤ S.faults source_new
   pub out_count : O.faults out_old ≤ O.faults out_new

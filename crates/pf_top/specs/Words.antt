@@ -6,9 +6,9 @@ use Rattle.std.specs.declared.alloc.Global.{Global}
 use Rattle.pf_model.specs.Fraction.{Fraction}
 use Rattle.pf_text.specs.Numbers.{natural_of, whole_of, billion}
 use Rattle.pf_text.specs.Words.{natural_within, integer_within, fraction_of_numbers}
-use Rattle.pf_top.specs.Task.{at, curve, Command, answer, check}
+use Rattle.pf_top.specs.Job.{at, named, Command, answer, check}
 use Rattle.pf_top.specs.declared.words.Request.{Request}
-use Rattle.pf_top.specs.declared.words.Request.TheVariants.{At, Curve, CheckCurve}
+use Rattle.pf_top.specs.declared.words.Request.TheVariants.{At, Answer, Check}
 
 -- the bytes of each word
 abbrev pub word_bytes : List (String Global) → List (List ℕ)
@@ -20,6 +20,6 @@ fraction_of_parts front back = fraction_of_numbers (integer_within (neg_ℤ (pos
 
 -- the command that a request stands for
 abbrev pub command_of_request : Request → Command
-command_of_request (At task) = answer (at task.parameter)
-command_of_request Curve = answer curve
-command_of_request CheckCurve = check curve
+command_of_request (At job) = answer (at job.parameter)
+command_of_request (Answer name) = answer (named name)
+command_of_request (Check name) = check (named name)

@@ -1,150 +1,36 @@
-// Verdicts on texts of curves, and changes that no certificate survives.
+// Verdicts on answers behind their problems, and changes that no certificate survives. A further command adds a row to `CERTIFIED`.
+ghost use Rattle.std.specs.Prelude.{◌<◌, length};
+
 use super::*;
+use crate::texts::{FIVE, FIVE_CERTIFICATE, STEEP, STEEP_CURVE, THREE};
 use pf_io::{MemSink, MemSource};
 use std::alloc::{AllocError, Global};
 use std::test::Fail;
 
-const PROBLEM: &[u8] =
-    b"p par 5 7\ni 0 1 8 1\nn 1 s\nn 5 t\na 1 2 2 1\na 1 3 0 2\na 2 4 5 0\na 3 4 4 0\na 2 3 1 0\na 4 5 14 -1\na 3 5 3 0\nend\n";
-
-const CERTIFICATE: &[u8] =
-    b"o curve\nk 3\nb 0 0 1 2\ns 1 2 3 10000\nb 1 10 3 36\ns 2 12 0 11100\nb 2 5 1 12\ns 3 17 -1 11110\nb 3 8 1 9\nf 0 2 0 2 0 0 2 0\nf 1 16 20 15 12 1 27 9\nf 2 5 7 5 4 0 9 3\nf 3 5 4 5 1 0 6 3\nend\n";
-
-// Where the answer is cut out, from one byte to before another, and what stands there in its place.
-const CHANGES: [(usize, usize, &[u8]); 98] = [
-    // Each line left out.
-    (0, 8, b""),
-    (8, 12, b""),
-    (12, 22, b""),
-    (22, 36, b""),
-    (36, 48, b""),
-    (48, 63, b""),
-    (63, 74, b""),
-    (74, 90, b""),
-    (90, 100, b""),
-    (100, 118, b""),
-    (118, 141, b""),
-    (141, 159, b""),
-    (159, 177, b""),
-    (177, 181, b""),
-    // Each two neighbouring lines exchanged.
-    (0, 12, b"k 3\no curve\n"),
-    (8, 22, b"b 0 0 1 2\nk 3\n"),
-    (12, 36, b"s 1 2 3 10000\nb 0 0 1 2\n"),
-    (22, 48, b"b 1 10 3 36\ns 1 2 3 10000\n"),
-    (36, 63, b"s 2 12 0 11100\nb 1 10 3 36\n"),
-    (48, 74, b"b 2 5 1 12\ns 2 12 0 11100\n"),
-    (63, 90, b"s 3 17 -1 11110\nb 2 5 1 12\n"),
-    (74, 100, b"b 3 8 1 9\ns 3 17 -1 11110\n"),
-    (90, 118, b"f 0 2 0 2 0 0 2 0\nb 3 8 1 9\n"),
-    (100, 141, b"f 1 16 20 15 12 1 27 9\nf 0 2 0 2 0 0 2 0\n"),
-    (118, 159, b"f 2 5 7 5 4 0 9 3\nf 1 16 20 15 12 1 27 9\n"),
-    (141, 177, b"f 3 5 4 5 1 0 6 3\nf 2 5 7 5 4 0 9 3\n"),
-    (159, 181, b"end\nf 3 5 4 5 1 0 6 3\n"),
-    // One number of a line raised by 1.
-    (10, 11, b"4"),
-    (20, 21, b"3"),
-    (26, 27, b"3"),
-    (28, 29, b"4"),
-    (40, 42, b"11"),
-    (43, 44, b"4"),
-    (45, 47, b"37"),
-    (52, 54, b"13"),
-    (69, 70, b"2"),
-    (71, 73, b"13"),
-    (81, 83, b"0"),
-    (94, 95, b"9"),
-    (98, 99, b"10"),
-    (104, 105, b"3"),
-    (139, 140, b"10"),
-    (153, 154, b"1"),
-    (173, 174, b"7"),
-    // One character of a side changed.
-    (30, 31, b"0"),
-    (32, 33, b"1"),
-    (34, 35, b"1"),
-    (57, 58, b"0"),
-    (59, 60, b"0"),
-    (61, 62, b"1"),
-    (84, 85, b"0"),
-    (86, 87, b"0"),
-    (88, 89, b"1"),
-    // A zero in front of a number.
-    (10, 10, b"0"),
-    (20, 20, b"0"),
-    (26, 26, b"0"),
-    (45, 45, b"0"),
-    (52, 52, b"0"),
-    (71, 71, b"0"),
-    (78, 78, b"0"),
-    (98, 98, b"0"),
-    (116, 116, b"0"),
-    (139, 139, b"0"),
-    (157, 157, b"0"),
-    (175, 175, b"0"),
-    // A second space.
-    (2, 2, b" "),
-    (10, 10, b" "),
-    (20, 20, b" "),
-    (30, 30, b" "),
-    (45, 45, b" "),
-    (57, 57, b" "),
-    (71, 71, b" "),
-    (84, 84, b" "),
-    (98, 98, b" "),
-    (116, 116, b" "),
-    (139, 139, b" "),
-    (157, 157, b" "),
-    (175, 175, b" "),
-    // A comment before each line, and behind the last.
-    (0, 0, b"c x\n"),
-    (8, 8, b"c x\n"),
-    (12, 12, b"c x\n"),
-    (22, 22, b"c x\n"),
-    (36, 36, b"c x\n"),
-    (48, 48, b"c x\n"),
-    (63, 63, b"c x\n"),
-    (74, 74, b"c x\n"),
-    (90, 90, b"c x\n"),
-    (100, 100, b"c x\n"),
-    (118, 118, b"c x\n"),
-    (141, 141, b"c x\n"),
-    (159, 159, b"c x\n"),
-    (177, 177, b"c x\n"),
-    (181, 181, b"c x\n"),
-    // A byte that no text has.
-    (0, 0, b"\xFF"),
-    (9, 9, b"\xFF"),
-    (40, 40, b"\xFF"),
-    (180, 180, b"\xFF"),
-    (181, 181, b"\xFF"),
+// The name of a command, a problem, and a text that certifies its answer.
+const CERTIFIED: [(&str, &[u8], &[u8]); 2] = [
+    ("curve", STEEP, STEEP_CURVE),
+    ("curve", FIVE, FIVE_CERTIFICATE),
 ];
 
-// A problem with an answer behind it, and the code: 0 where the answer certifies the curve.
-const VERDICTS: [(&[u8], u8); 6] = [
+// The same, and a text that certifies nothing: a flow that leaves a node out, a breakpoint left out, nothing, and a side
+// that holds the sink.
+const REJECTED: [(&str, &[u8], &[u8]); 4] = [
     (
-        b"p par 5 7\ni 0 1 8 1\nn 1 s\nn 5 t\na 1 2 2 1\na 1 3 0 2\na 2 4 5 0\na 3 4 4 0\na 2 3 1 0\na 4 5 14 -1\na 3 5 3 0\nend\no curve\nk 3\nb 0 0 1 2\ns 1 2 3 10000\nb 1 10 3 36\ns 2 12 0 11100\nb 2 5 1 12\ns 3 17 -1 11110\nb 3 8 1 9\nf 0 2 0 2 0 0 2 0\nf 1 16 20 15 12 1 27 9\nf 2 5 7 5 4 0 9 3\nf 3 5 4 5 1 0 6 3\nend\n",
-        0,
+        "curve",
+        FIVE,
+        b"o curve\nk 3\nb 0 0 1 2\ns 1 2 3 10000\nb 1 10 3 36\ns 2 12 0 11100\nb 2 5 1 12\ns 3 17 -1 11110\nb 3 8 1 9\nf 0 2 0 2 0 0 2 0\nf 1 16 20 15 12 1 27 9\nf 2 5 7 5 4 1 9 3\nf 3 5 4 5 1 0 6 3\nend\n",
     ),
     (
-        b"p par 5 7\ni 0 1 8 1\nn 1 s\nn 5 t\na 1 2 2 1\na 1 3 0 2\na 2 4 5 0\na 3 4 4 0\na 2 3 1 0\na 4 5 14 -1\na 3 5 3 0\nend\no curve\nk 3\nb 0 0 1 2\ns 1 2 3 10000\nb 1 10 3 36\ns 2 12 0 11100\nb 2 5 1 12\ns 3 17 -1 11110\nb 3 8 1 9\nf 0 2 0 2 0 0 2 0\nf 1 16 20 15 12 1 27 9\nf 2 5 7 5 4 1 9 3\nf 3 5 4 5 1 0 6 3\nend\n",
-        1,
+        "curve",
+        STEEP,
+        b"o curve\nk 1\nb 0 0 1 0\ns 1 4 0 110\nb 1 10 1 4\nf 0 0 0\nf 1 4 4\nend\n",
     ),
+    ("curve", STEEP, b""),
     (
-        b"p par 3 2\ni 0 1 10 1\nn 1 s\nn 3 t\na 1 2 0 3\na 2 3 4 0\nend\no curve\nk 2\nb 0 0 1 0\ns 1 0 3 100\nb 1 4 3 12\ns 2 4 0 110\nb 2 10 1 4\nf 0 0 0\nf 1 12 12\nf 2 4 4\nend\n",
-        0,
-    ),
-    (
-        b"p par 3 2\ni 0 1 10 1\nn 1 s\nn 3 t\na 1 2 0 3\na 2 3 4 0\nend\no curve\nk 1\nb 0 0 1 0\ns 1 4 0 110\nb 1 10 1 4\nf 0 0 0\nf 1 4 4\nend\n",
-        1,
-    ),
-    (
-        b"p par 3 2\ni 0 1 10 1\nn 1 s\nn 3 t\na 1 2 0 3\na 2 3 4 0\nend\n",
-        1,
-    ),
-    (
-        b"p par 3 2\ni 0 1 10 1\nn 1 s\nn 3 t\na 1 2 0 1\na 2 3 4 0\nend\no curve\nk 1\nb 0 0 1 0\ns 1 0 0 111\nb 1 10 1 0\nf 0 0 0\nf 1 0 0\nend\n",
-        1,
+        "curve",
+        THREE,
+        b"o curve\nk 1\nb 0 0 1 0\ns 1 0 0 111\nb 1 10 1 0\nf 0 0 0\nf 1 0 0\nend\n",
     ),
 ];
 
@@ -152,52 +38,197 @@ const YES: &[u8] = b"o check\nyes\nend\n";
 
 const NO: &[u8] = b"o check\nno\nend\n";
 
-fn check_words(alloc: Global) -> Result<[String; 2], AllocError> {
-    let first = String::from_str(alloc, "check")?;
-    let second = String::from_str(alloc, "curve")?;
-    Ok([first, second])
+// How a field is changed: bytes in front of it, or its last byte replaced by the next one, as 3 by 4.
+#[derive(Clone, Copy)]
+enum Change {
+    Front(&'static [u8]),
+    Next,
 }
 
-// The problem, and behind it the certificate with one change.
-fn changed(alloc: Global, from: usize, to: usize, with: &[u8]) -> Result<Vec<u8>, AllocError> {
-    let from = from.min(CERTIFICATE.len());
-    let to = to.min(CERTIFICATE.len());
-    let mut text = Vec::from_slice(alloc, PROBLEM)?;
-    text.extend_from_slice(&CERTIFICATE[..from])?;
-    text.extend_from_slice(with)?;
-    text.extend_from_slice(&CERTIFICATE[to..])?;
-    Ok(text)
+// A zero in front, a second space, a comment, a byte that no text has, and another number, side or word.
+const CHANGES: [Change; 5] = [
+    Change::Front(b"0"),
+    Change::Front(b" "),
+    Change::Front(b"c x\n"),
+    Change::Front(b"\xFF"),
+    Change::Next,
+];
+
+// Adds the lines from one number to before another, counted from 0.
+fn push_lines(text: &mut Vec<u8>, answer: &[u8], from: usize, to: usize) -> Result<(), AllocError> {
+    let mut line = 0usize;
+    for byte in answer {
+        if from <= line && line < to {
+            text.extend_from_slice(&[*byte])?;
+        }
+        if *byte == b'\n' {
+            line = line.saturating_add(1);
+        }
+    }
+    Ok(())
+}
+
+// Whether a field begins at the place.
+fn begins(answer: &[u8], at: usize) -> bool
+    requires { at < length answer.now }
+{
+    at == 0 || answer[at - 1] == b' ' || answer[at - 1] == b'\n'
+}
+
+// Whether a field ends behind the place.
+fn ends(answer: &[u8], at: usize) -> bool
+    requires { at < length answer.now }
+{
+    at + 1 < answer.len() && (answer[at + 1] == b' ' || answer[at + 1] == b'\n')
+}
+
+// Adds a byte of the field that is changed.
+fn push_changed(
+    text: &mut Vec<u8>,
+    byte: u8,
+    first: bool,
+    last: bool,
+    change: Change,
+) -> Result<(), AllocError> {
+    match change {
+        Change::Front(bytes) => {
+            if first {
+                text.extend_from_slice(bytes)?;
+            }
+            text.extend_from_slice(&[byte])
+        }
+        Change::Next => {
+            let byte = if last { byte.wrapping_add(1) } else { byte };
+            text.extend_from_slice(&[byte])
+        }
+    }
+}
+
+// Adds the answer with one field of one line changed, both counted from 0. Where there is no such field, nothing is.
+fn push_replaced(
+    text: &mut Vec<u8>,
+    answer: &[u8],
+    line: usize,
+    field: usize,
+    change: Change,
+) -> Result<(), AllocError> {
+    let mut at_line = 0usize;
+    let mut at_field = 0usize;
+    for at in 0..answer.len() {
+        let byte = answer[at];
+        if at_line == line && at_field == field {
+            push_changed(text, byte, begins(answer, at), ends(answer, at), change)?;
+        } else {
+            text.extend_from_slice(&[byte])?;
+        }
+        if byte == b' ' {
+            at_field = at_field.saturating_add(1);
+        }
+        if byte == b'\n' {
+            at_line = at_line.saturating_add(1);
+            at_field = 0;
+        }
+    }
+    Ok(())
+}
+
+// Whether this is the verdict on the answer behind the problem.
+fn is_verdict(
+    alloc: Global,
+    name: &str,
+    problem: &[u8],
+    answer: &[u8],
+    status: Status,
+    text: &[u8],
+) -> Result<bool, Fail> {
+    let words = [
+        String::from_str(alloc, "check")?,
+        String::from_str(alloc, name)?,
+    ];
+    let mut whole = Vec::from_slice(alloc, problem)?;
+    whole.extend_from_slice(answer)?;
+    let mut source = MemSource::new(alloc, whole.as_slice(), 512, &[])?;
+    let mut out = MemSink::new(alloc, 64, 10, &[])?;
+    let mut err = MemSink::new(alloc, 64, 10, &[])?;
+    let found = run(alloc, &words, &mut source, &mut out, &mut err);
+    Ok(
+        found == status
+            && out.taken() == text
+            && out.flushed() == text.len()
+            && err.taken().is_empty(),
+    )
+}
+
+// Whether the answer is refused, or was not changed at all.
+fn is_refused(
+    alloc: Global,
+    name: &str,
+    problem: &[u8],
+    answer: &[u8],
+    changed: &[u8],
+) -> Result<bool, Fail> {
+    if changed == answer {
+        return Ok(true);
+    }
+    is_verdict(alloc, name, problem, changed, Status::No, NO)
 }
 
 #[test]
 fn verdicts(rt: HostRuntime) -> Result<(), Fail> {
     let alloc = rt.alloc();
-    let words = check_words(alloc)?;
-    for (text, code) in VERDICTS {
-        let mut source = MemSource::new(alloc, text, 64, &[])?;
-        let mut out = MemSink::new(alloc, 64, 10, &[])?;
-        let mut err = MemSink::new(alloc, 64, 10, &[])?;
-        let status = run(alloc, &words, &mut source, &mut out, &mut err);
-        assert_eq!(rt; status.code(), code);
-        assert_eq!(rt; out.taken(), if code == 0 { YES } else { NO });
-        assert_eq!(rt; out.flushed(), out.taken().len());
-        assert_eq!(rt; err.taken(), b"".as_slice());
+    for (name, problem, answer) in CERTIFIED {
+        assert!(rt; is_verdict(alloc, name, problem, answer, Status::Done, YES)?);
+    }
+    for (name, problem, answer) in REJECTED {
+        assert!(rt; is_verdict(alloc, name, problem, answer, Status::No, NO)?);
     }
     Ok(())
 }
 
+// Each field of each line, with each change.
 #[test]
-fn no_change_survives(rt: HostRuntime) -> Result<(), Fail> {
+fn no_changed_field_survives(rt: HostRuntime) -> Result<(), Fail> {
     let alloc = rt.alloc();
-    let words = check_words(alloc)?;
-    for (from, to, with) in CHANGES {
-        let text = changed(alloc, from, to, with)?;
-        let mut source = MemSource::new(alloc, text.as_slice(), 512, &[])?;
-        let mut out = MemSink::new(alloc, 64, 10, &[])?;
-        let mut err = MemSink::new(alloc, 64, 10, &[])?;
-        let status = run(alloc, &words, &mut source, &mut out, &mut err);
-        assert_eq!(rt; status, Status::No);
-        assert_eq!(rt; out.taken(), NO);
+    for (name, problem, answer) in CERTIFIED {
+        for line in 0..16 {
+            for field in 0..10 {
+                for change in CHANGES {
+                    let mut changed = Vec::new(alloc);
+                    push_replaced(&mut changed, answer, line, field, change)?;
+                    assert!(rt;
+                        is_refused(alloc, name, problem, answer, &changed)?,
+                        "line {line}, field {field}"
+                    );
+                }
+            }
+        }
+    }
+    Ok(())
+}
+
+// Each line left out, and each exchanged with the next.
+#[test]
+fn no_changed_line_survives(rt: HostRuntime) -> Result<(), Fail> {
+    let alloc = rt.alloc();
+    for (name, problem, answer) in CERTIFIED {
+        for line in 0..16 {
+            let mut without = Vec::new(alloc);
+            push_lines(&mut without, answer, 0, line)?;
+            push_lines(&mut without, answer, line + 1, usize::MAX)?;
+            assert!(rt;
+                is_refused(alloc, name, problem, answer, &without)?,
+                "line {line}"
+            );
+            let mut exchanged = Vec::new(alloc);
+            push_lines(&mut exchanged, answer, 0, line)?;
+            push_lines(&mut exchanged, answer, line + 1, line + 2)?;
+            push_lines(&mut exchanged, answer, line, line + 1)?;
+            push_lines(&mut exchanged, answer, line + 2, usize::MAX)?;
+            assert!(rt;
+                is_refused(alloc, name, problem, answer, &exchanged)?,
+                "line {line}"
+            );
+        }
     }
     Ok(())
 }
@@ -206,8 +237,12 @@ fn no_change_survives(rt: HostRuntime) -> Result<(), Fail> {
 #[test]
 fn each_write_of_a_verdict_fails_in_turn(rt: HostRuntime) -> Result<(), Fail> {
     let alloc = rt.alloc();
-    let words = check_words(alloc)?;
-    let text = changed(alloc, 0, 0, b"")?;
+    let words = [
+        String::from_str(alloc, "check")?,
+        String::from_str(alloc, "curve")?,
+    ];
+    let mut text = Vec::from_slice(alloc, STEEP)?;
+    text.extend_from_slice(STEEP_CURVE)?;
     for failing in 1..=3 {
         let mut source = MemSource::new(alloc, text.as_slice(), 512, &[])?;
         let mut out = MemSink::new(alloc, 64, 10, &[failing])?;

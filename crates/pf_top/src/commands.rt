@@ -1,3 +1,4 @@
-// The commands, each of which is an impl of `Task`, and of `Checked` where its answers can be checked.
+// The commands, each of which is an impl of `Job`, and of `Checked` where its answers can be checked.
 pub mod at;
+pub mod closure;
 pub mod curve;

@@ -7,10 +7,10 @@
 #![tactic(auto)]
 
 mod commands;
+mod job;
 mod messages;
 mod running;
 mod status;
-mod task;
 mod words;
 
 pub use messages::tell;
@@ -22,3 +22,5 @@ pub use status::Status;
 mod checks;
 #[cfg(test)]
 mod tests;
+#[cfg(test)]
+mod texts;

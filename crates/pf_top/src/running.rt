@@ -1,15 +1,17 @@
 // From the words and the bytes of a source to the bytes of a sink and a status.
 ghost use Rattle.std.specs.Prelude.{◌≡◌, ℕ, List, ◌↔◌, ◌≤◌, ◌^◌, Some, None, length};
+ghost use Rattle.pf_top.specs.Job.{named, answer, check};
 ghost use Rattle.pf_top.specs.Asked.{command_of};
 ghost use Rattle.pf_top.specs.Words.{word_bytes, command_of_request};
 ghost use Rattle.pf_top.specs.Messages.{ErrAfter};
 ghost use Rattle.pf_top.specs.Running.{IsEnd, IsRun};
 
+use crate::commands::closure::Closure;
 use crate::commands::curve::Curve;
+use crate::job::{answer, check};
 use crate::messages::tell;
 use crate::status::Status;
-use crate::task::{answer, check};
-use crate::words::{Request, read_words};
+use crate::words::{Name, Request, read_words};
 use pf_io::{ReadEnd, Sink, Source, read_all};
 use pf_text::Refusal;
 use std::alloc::Global;
@@ -17,15 +19,37 @@ use std::alloc::Global;
 /// The most bytes of an input.
 const LIMIT: usize = 1 << 29;
 
+// The answer to the job of this name.
+fn answer_named<O: Sink>(name: Name, alloc: Global, bytes: &[u8], out: &mut O) -> Status
+    requires { length bytes.now ≤ 2 ^ 29 }
+    ensures { IsEnd O.Sink out.old out.new (answer (named name)) bytes.now result }
+{
+    match name {
+        Name::Curve => answer(&Curve, alloc, bytes, out),
+        Name::Closure => answer(&Closure, alloc, bytes, out),
+    }
+}
+
+// The verdict on an answer to it.
+fn check_named<O: Sink>(name: Name, alloc: Global, bytes: &[u8], out: &mut O) -> Status
+    requires { length bytes.now ≤ 2 ^ 29 }
+    ensures { IsEnd O.Sink out.old out.new (check (named name)) bytes.now result }
+{
+    match name {
+        Name::Curve => check(&Curve, alloc, bytes, out),
+        Name::Closure => check(&Closure, alloc, bytes, out),
+    }
+}
+
 // The command of a request, from its bytes to its status.
 fn run_request<O: Sink>(alloc: Global, request: &Request, bytes: &[u8], out: &mut O) -> Status
     requires { length bytes.now ≤ 2 ^ 29 }
     ensures { IsEnd O.Sink out.old out.new (command_of_request request.now) bytes.now result }
 {
     match request {
-        Request::At(task) => answer(task, alloc, bytes, out),
-        Request::Curve => answer(&Curve, alloc, bytes, out),
-        Request::CheckCurve => check(&Curve, alloc, bytes, out),
+        Request::At(job) => answer(job, alloc, bytes, out),
+        Request::Answer(name) => answer_named(*name, alloc, bytes, out),
+        Request::Check(name) => check_named(*name, alloc, bytes, out),
     }
 }
 

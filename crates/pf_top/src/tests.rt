@@ -1,18 +1,15 @@
 use super::*;
+use crate::texts::{FIVE, STEEP, STEEP_CURVE, THREE, THREE_AT_FOUR, THREE_CURVE};
 use pf_io::{MemSink, MemSource};
 use std::alloc::{AllocError, Global};
 use std::test::Fail;
 
-const TEXT: &[u8] = b"p par 3 2\ni 0 1 10 1\nn 1 s\nn 3 t\na 1 2 0 1\na 2 3 4 0\nend\n";
-
-const ANSWER: &[u8] = b"o at\nb 4 1 4\ns 0 1 100\nf 4 4\nend\n";
-
 // A second word, a text, the code, and the line of the code if it has one.
 const REFUSED: [(&str, &[u8], u8, &[u8]); 18] = [
-    ("11/1", TEXT, 3, b"ppart: outside\n"),
-    ("4", TEXT, 2, b"ppart: usage\n"),
-    ("4/1/1", TEXT, 2, b"ppart: usage\n"),
-    ("4/-1", TEXT, 2, b"ppart: usage\n"),
+    ("11/1", THREE, 3, b"ppart: outside\n"),
+    ("4", THREE, 2, b"ppart: usage\n"),
+    ("4/1/1", THREE, 2, b"ppart: usage\n"),
+    ("4/-1", THREE, 2, b"ppart: usage\n"),
     (
         "4/1",
         b"p par 3 1\ni 0 1 6 1\nn 1 s\nn 3 t\na 2 3 5 -1\nend\n",
@@ -95,8 +92,8 @@ const REFUSED: [(&str, &[u8], u8, &[u8]); 18] = [
 ];
 
 const ANSWERED: [(&str, &[u8]); 3] = [
-    ("4/1", TEXT),
-    ("08/2", TEXT),
+    ("4/1", THREE),
+    ("08/2", THREE),
     (
         "4/1",
         b"c made by hand\r\n\r\np par 3 2\r\ni 0 1 010 1\r\nn 1 s\r\nn 3 t\r\na 1 2 0 1\r\na 2 3 4 0\r\nend\r\n",
@@ -109,14 +106,8 @@ const CURVES: [(&[u8], &[u8]); 9] = [
         b"p par 2 0\ni 0 1 1 1\nn 1 s\nn 2 t\nend\n",
         b"o curve\nk 1\nb 0 0 1 0\ns 1 0 0 10\nb 1 1 1 0\nf 0\nf 1\nend\n",
     ),
-    (
-        TEXT,
-        b"o curve\nk 2\nb 0 0 1 0\ns 1 0 1 100\nb 1 4 1 4\ns 2 4 0 110\nb 2 10 1 4\nf 0 0 0\nf 1 4 4\nf 2 4 4\nend\n",
-    ),
-    (
-        b"p par 3 2\ni 0 1 10 1\nn 1 s\nn 3 t\na 1 2 0 3\na 2 3 4 0\nend\n",
-        b"o curve\nk 2\nb 0 0 1 0\ns 1 0 3 100\nb 1 4 3 12\ns 2 4 0 110\nb 2 10 1 4\nf 0 0 0\nf 1 12 12\nf 2 4 4\nend\n",
-    ),
+    (THREE, THREE_CURVE),
+    (STEEP, STEEP_CURVE),
     (
         b"p par 3 2\ni 0 1 5 1\nn 1 s\nn 3 t\na 1 2 0 1\na 2 3 0 0\nend\n",
         b"o curve\nk 1\nb 0 0 1 0\ns 1 0 0 110\nb 1 5 1 0\nf 0 0 0\nf 1 0 0\nend\n",
@@ -138,7 +129,7 @@ const CURVES: [(&[u8], &[u8]); 9] = [
         b"o curve\nk 2\nb 0 0 1 0\ns 1 0 999999999 100\nb 1 1000000000 999999999 999999999000000000\ns 2 1000000000 0 110\nb 2 2 1 1000000000\nf 0 0 0\nf 1 999999999000000000 999999999000000000\nf 2 1000000000 1000000000\nend\n",
     ),
     (
-        b"p par 5 7\ni 0 1 8 1\nn 1 s\nn 5 t\na 1 2 2 1\na 1 3 0 2\na 2 4 5 0\na 3 4 4 0\na 2 3 1 0\na 4 5 14 -1\na 3 5 3 0\nend\n",
+        FIVE,
         b"o curve\nk 3\nb 0 0 1 2\ns 1 2 3 10000\nb 1 10 3 36\ns 2 12 0 11100\nb 2 5 1 12\ns 3 17 -1 11110\nb 3 8 1 9\nf 0 2 0 2 0 0 2 0\nf 1 16 20 15 12 1 27 9\nf 2 6 6 5 4 1 9 3\nf 3 3 6 2 4 1 6 3\nend\n",
     ),
 ];
@@ -176,8 +167,8 @@ fn answers(rt: HostRuntime) -> Result<(), Fail> {
         let mut err = MemSink::new(alloc, 64, 10, &[])?;
         let status = run(alloc, &words, &mut source, &mut out, &mut err);
         assert_eq!(rt; status, Status::Done);
-        assert_eq!(rt; out.taken(), ANSWER);
-        assert_eq!(rt; out.flushed(), ANSWER.len());
+        assert_eq!(rt; out.taken(), THREE_AT_FOUR);
+        assert_eq!(rt; out.flushed(), THREE_AT_FOUR.len());
         assert_eq!(rt; err.taken(), b"".as_slice());
     }
     Ok(())
@@ -204,7 +195,7 @@ fn each_read_fails_in_turn(rt: HostRuntime) -> Result<(), Fail> {
     let alloc = rt.alloc();
     let words = at_words(alloc, "4/1")?;
     for failing in 1..=5 {
-        let mut source = MemSource::new(alloc, TEXT, 16, &[failing])?;
+        let mut source = MemSource::new(alloc, THREE, 16, &[failing])?;
         let mut out = MemSink::new(alloc, 64, 10, &[])?;
         let mut err = MemSink::new(alloc, 64, 10, &[])?;
         let status = run(alloc, &words, &mut source, &mut out, &mut err);
@@ -221,13 +212,13 @@ fn each_write_fails_in_turn(rt: HostRuntime) -> Result<(), Fail> {
     let alloc = rt.alloc();
     let words = at_words(alloc, "4/1")?;
     for failing in 1..=5 {
-        let mut source = MemSource::new(alloc, TEXT, 16, &[])?;
+        let mut source = MemSource::new(alloc, THREE, 16, &[])?;
         let mut out = MemSink::new(alloc, 64, 10, &[failing])?;
         let mut err = MemSink::new(alloc, 64, 10, &[failing])?;
         let status = run(alloc, &words, &mut source, &mut out, &mut err);
         assert_eq!(rt; status, Status::WriteFault);
-        let taken = (10 * (failing as usize - 1)).min(ANSWER.len());
-        assert_eq!(rt; out.taken(), &ANSWER[..taken]);
+        let taken = (10 * (failing as usize - 1)).min(THREE_AT_FOUR.len());
+        assert_eq!(rt; out.taken(), &THREE_AT_FOUR[..taken]);
     }
     Ok(())
 }
@@ -238,18 +229,39 @@ fn each_call_of_a_curve_fails_in_turn(rt: HostRuntime) -> Result<(), Fail> {
     let alloc = rt.alloc();
     let words = [String::from_str(alloc, "curve")?];
     for failing in 1..=5 {
-        let mut source = MemSource::new(alloc, TEXT, 16, &[failing])?;
+        let mut source = MemSource::new(alloc, THREE, 16, &[failing])?;
         let mut out = MemSink::new(alloc, 128, 10, &[])?;
         let mut err = MemSink::new(alloc, 64, 10, &[])?;
         let status = run(alloc, &words, &mut source, &mut out, &mut err);
         assert_eq!(rt; status, Status::ReadFault);
     }
     for failing in 1..=11 {
-        let mut source = MemSource::new(alloc, TEXT, 16, &[])?;
+        let mut source = MemSource::new(alloc, THREE, 16, &[])?;
         let mut out = MemSink::new(alloc, 128, 10, &[failing])?;
         let mut err = MemSink::new(alloc, 64, 10, &[])?;
         let status = run(alloc, &words, &mut source, &mut out, &mut err);
         assert_eq!(rt; status, Status::WriteFault);
+    }
+    Ok(())
+}
+
+// Fifteen or eighteen bytes in pieces of ten take two writes and a flush. Where they fail, all else is as it was.
+#[test]
+fn a_fault_of_the_messages_changes_nothing(rt: HostRuntime) -> Result<(), Fail> {
+    let alloc = rt.alloc();
+    let words = at_words(alloc, "11/1")?;
+    for failing in 1..=3 {
+        let mut source = MemSource::new(alloc, THREE, 16, &[])?;
+        let mut out = MemSink::new(alloc, 64, 10, &[])?;
+        let mut err = MemSink::new(alloc, 64, 10, &[failing])?;
+        let refused = run(alloc, &words, &mut source, &mut out, &mut err);
+        assert_eq!(rt; refused.code(), 3);
+        assert_eq!(rt; out.taken(), b"".as_slice());
+        let mut broken = MemSource::new(alloc, THREE, 16, &[2])?;
+        let mut err = MemSink::new(alloc, 64, 10, &[failing])?;
+        let fault = run(alloc, &words, &mut broken, &mut out, &mut err);
+        assert_eq!(rt; fault, Status::ReadFault);
+        assert_eq!(rt; out.taken(), b"".as_slice());
     }
     Ok(())
 }

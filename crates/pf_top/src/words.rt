@@ -1,26 +1,35 @@
 // Which command words ask for.
 ghost use Rattle.std.specs.Prelude.{◌≡◌, ◌==◌};
 ghost use Rattle.std.specs.List.{position};
-ghost use Rattle.std.specs.Option.{option_map};
+ghost use Rattle.std.specs.Option.{option_map, option_and_then};
 ghost use Rattle.pf_model.specs.Fraction.{IsBoundedFraction, lowest};
 ghost use Rattle.pf_text.specs.Words.{parameter_of};
-ghost use Rattle.pf_top.specs.Task.{at, answer};
-ghost use Rattle.pf_top.specs.Asked.{one_word, check_word, two_words, command_of};
+ghost use Rattle.pf_top.specs.Job.{at, named, answer, check};
+ghost use Rattle.pf_top.specs.Asked.{beside, names, first_words, command_of};
 ghost use Rattle.pf_top.specs.Words.{word_bytes, command_of_request, fraction_of_parts};
 
 use crate::commands::at::At;
 use pf_lines::whole;
 use pf_rat::Rat;
 
+/// The jobs that a word alone asks for. `check` with their name tests an answer.
+#[derive(Clone, Copy, Debug, PartialEq, Eq)]
+pub enum Name {
+    /// The whole least-cut function.
+    Curve,
+    /// The least ratio of a closure.
+    Closure,
+}
+
 /// What words ask for.
 #[derive(Drop)]
 pub enum Request {
     /// The answer at one parameter.
     At(At),
-    /// The whole least-cut function.
-    Curve,
-    /// Whether a text certifies the whole least-cut function.
-    CheckCurve,
+    /// The answer to the job of this name.
+    Answer(Name),
+    /// Whether a text certifies an answer to it.
+    Check(Name),
 }
 
 const BILLION: i64 = 1_000_000_000;
@@ -67,14 +76,27 @@ fn read_parameter(bytes: &[u8]) -> Option<Rat>
     }
 }
 
+// The job of this name.
+fn name_of(word: &[u8]) -> Option<Name>
+    ensures { beside names word.now ≡ result }
+{
+    if word == b"curve".as_slice() {
+        return Some(Name::Curve);
+    }
+    if word == b"closure".as_slice() {
+        return Some(Name::Closure);
+    }
+    None
+}
+
 // What one word asks for, if it has the form of a command.
 fn one_word(first: &[u8]) -> Option<Request>
-    ensures { one_word first.now ≡ option_map command_of_request result }
+    ensures { option_map (λ name. answer (named name)) (beside names first.now) ≡ option_map command_of_request result }
 {
-    if first != b"curve".as_slice() {
-        return None;
+    match name_of(first) {
+        Some(name) => Some(Request::Answer(name)),
+        None => None,
     }
-    Some(Request::Curve)
 }
 
 // What `at` asks for with this second word, if it is a parameter.
@@ -87,19 +109,19 @@ fn at_word(second: &[u8]) -> Option<Request>
     }
 }
 
-// What `check` asks for with this second word, if it names a command with a certificate.
+// What `check` asks for with this second word, if it names a job with a certificate.
 fn check_word(second: &[u8]) -> Option<Request>
-    ensures { check_word second.now ≡ option_map command_of_request result }
+    ensures { option_map (λ name. check (named name)) (beside names second.now) ≡ option_map command_of_request result }
 {
-    if second != b"curve".as_slice() {
-        return None;
+    match name_of(second) {
+        Some(name) => Some(Request::Check(name)),
+        None => None,
     }
-    Some(Request::CheckCurve)
 }
 
 // What two words ask for, if they have the form of a command.
 fn two_words(first: &[u8], second: &[u8]) -> Option<Request>
-    ensures { two_words first.now second.now ≡ option_map command_of_request result }
+    ensures { option_and_then (λ read. read second.now) (beside first_words first.now) ≡ option_map command_of_request result }
 {
     if first == b"at".as_slice() {
         return at_word(second);

@@ -1,9 +1,9 @@
 // `at P/Q`: the smallest least cut at one parameter, and a greatest flow there.
 ghost use Rattle.pf_model.specs.Answer.{IsPointShape};
 ghost use Rattle.pf_par.specs.Answers.{point_text};
-ghost use Rattle.pf_top.specs.Task.{at};
+ghost use Rattle.pf_top.specs.Job.{at};
 
-use crate::task::{Stop, Task};
+use crate::job::{Job, Stop};
 use pf_curve::{AtBad, Point, at};
 use pf_io::{Failed, Printer, Sink};
 use pf_lines::{Lines, ReadBad};
@@ -19,12 +19,12 @@ pub struct At {
     pub parameter: Rat,
 }
 
-impl Task for At {
+impl Job for At {
     type Problem = Net;
 
     type Answer = Point;
 
-    ghost name = { λ task. at task.parameter };
+    ghost row_of = { λ job. at job.parameter };
 
     ghost problem_of = { λ _ net. net };
 

@@ -1,9 +1,10 @@
 // `curve`: the whole least-cut function, and `check curve`: whether a text certifies it.
 ghost use Rattle.pf_model.specs.Answer.{IsCurveShape};
 ghost use Rattle.pf_par.specs.Answers.{curve_text};
-ghost use Rattle.pf_top.specs.Task.{curve};
+ghost use Rattle.pf_top.specs.Job.{named};
+ghost use Rattle.pf_top.specs.declared.words.Name.TheVariants.{Curve};
 
-use crate::task::{Checked, Stop, Task};
+use crate::job::{Checked, Job, Stop};
 use pf_curve::curve_of;
 use pf_frame::NoMemory;
 use pf_io::{Failed, Printer, Sink};
@@ -16,12 +17,12 @@ use std::alloc::Global;
 #[derive(Drop)]
 pub struct Curve;
 
-impl Task for Curve {
+impl Job for Curve {
     type Problem = Net;
 
     type Answer = pf_curve::Curve;
 
-    ghost name = { λ _. curve };
+    ghost row_of = { λ _. named Curve };
 
     ghost problem_of = { λ _ net. net };
 
@@ -34,10 +35,8 @@ impl Task for Curve {
     }
 
     fn solve(&self, alloc: Global, problem: &Net) -> Result<pf_curve::Curve, Stop> {
-        match curve_of(alloc, problem) {
-            Ok(whole) => Ok(whole),
-            Err(_) => Err(Stop::NoMemory),
-        }
+        let whole = curve_of(alloc, problem)?;
+        Ok(whole)
     }
 
     fn write<K: Sink>(

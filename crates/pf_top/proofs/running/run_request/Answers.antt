@@ -3,8 +3,8 @@ use Rattle.pf_top.proofs.running.run_request.Goals as goal
 pub returns-in-At : goal.returns-in-At
 returns-in-At g c = rw c.in-At.is c.answer.ensures
 
-pub returns-in-Curve : goal.returns-in-Curve
-returns-in-Curve g c = rw c.in-Curve.is c.answer-in-Curve.ensures
+pub returns-in-Answer : goal.returns-in-Answer
+returns-in-Answer g c = rw c.in-Answer.is c.answer_named.ensures
 
-pub returns-in-CheckCurve : goal.returns-in-CheckCurve
-returns-in-CheckCurve g c = rw c.in-CheckCurve.is c.check.ensures
+pub returns-in-Check : goal.returns-in-Check
+returns-in-Check g c = rw c.in-Check.is c.check_named.ensures

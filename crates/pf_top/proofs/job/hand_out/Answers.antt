@@ -1,7 +1,7 @@
 use Rattle.std.proofs.Common.{rules}
 use Rattle.pf_io.specs.Told.{IsFrontOf}
 use Rattle.pf_io.proofs.PrintingLemmas.{front_trans}
-use Rattle.pf_top.proofs.task.hand_out.Goals as goal
+use Rattle.pf_top.proofs.job.hand_out.Goals as goal
 
 pub returns-clause-grows : goal.returns-clause-grows
 returns-clause-grows g c =

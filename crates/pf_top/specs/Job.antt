@@ -7,8 +7,13 @@ use Rattle.pf_text.specs.declared.Refusal.TheVariants.{Outside}
 use Rattle.pf_text.specs.Kinds.{Kind}
 use Rattle.pf_par.specs.Text.{Given, par}
 use Rattle.pf_par.specs.Right.{is_outside, IsRightPoint, IsRightCurve, IsCertifiedCurve}
+use Rattle.pf_closure.specs.Problem.{ClosureProblem}
+use Rattle.pf_closure.specs.Text.{Given as ClosureGiven, closure}
+use Rattle.pf_closure.specs.Right.{IsRightRatio, IsCertifiedRatio}
+use Rattle.pf_top.specs.declared.words.Name.{Name}
+use Rattle.pf_top.specs.declared.words.Name.TheVariants.{Curve, Closure}
 
-pub record Task : Type 1 where
+pub record Job : Type 1 where
   -- what the lines of its text have given so far, and the problem that they give
   pub Lines : Type 0
   pub Problem : Type 0
@@ -21,14 +26,14 @@ pub record Task : Type 1 where
   -- which texts `check` says `yes` to
   pub Certifies : Problem → List ℕ → Type 0
 
--- the names of the rows, with the parameters of each
-pub data Name : Type 0 where
-  at : Fraction → Name
-  curve : Name
+-- the rows: commands with a parameter, and those that a name alone asks for
+pub data Row : Type 0 where
+  at : Fraction → Row
+  named : Name → Row
 
 -- the table
-abbrev pub task_of : Name → Task
-task_of (at x) = record {
+abbrev pub job_of : Row → Job
+job_of (at x) = record {
   Lines = Given;
   Problem = Network;
   kind = par;
@@ -36,7 +41,7 @@ task_of (at x) = record {
   IsRight = IsRightPoint x;
   Certifies = λ net text. ⊥;
 }
-task_of curve = record {
+job_of (named Curve) = record {
   Lines = Given;
   Problem = Network;
   kind = par;
@@ -44,15 +49,23 @@ task_of curve = record {
   IsRight = IsRightCurve;
   Certifies = IsCertifiedCurve;
 }
+job_of (named Closure) = record {
+  Lines = ClosureGiven;
+  Problem = ClosureProblem;
+  kind = closure;
+  refusal = λ items. None;
+  IsRight = IsRightRatio;
+  Certifies = IsCertifiedRatio;
+}
 
-abbrev pub ProblemOf : Name → Type 0
-ProblemOf name = (task_of name).Problem
+abbrev pub ProblemOf : Row → Type 0
+ProblemOf row = (job_of row).Problem
 
 -- an answer is sought, or one behind the problem is checked
 pub data Command : Type 0 where
-  answer : Name → Command
-  check : Name → Command
+  answer : Row → Command
+  check : Row → Command
 
-abbrev pub name_of : Command → Name
-name_of (answer name) = name
-name_of (check name) = name
+abbrev pub row_of : Command → Row
+row_of (answer row) = row
+row_of (check row) = row

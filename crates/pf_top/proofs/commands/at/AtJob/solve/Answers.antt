@@ -1,7 +1,7 @@
 use Rattle.std.proofs.Common.{◌≡◌, refl}
 use Rattle.pf_text.specs.declared.Refusal.TheVariants.{Outside}
 use Rattle.pf_top.proofs.PointLemmas.{refused_outside, passed_inside}
-use Rattle.pf_top.proofs.commands.at.AtTask.solve.Goals as goal
+use Rattle.pf_top.proofs.commands.at.AtJob.solve.Goals as goal
 
 pub returns-in-Ok-clause-right : goal.returns-in-Ok-clause-right
 returns-in-Ok-clause-right c = record { point = c.in-Ok.point; shape = c.in-Ok.ensures.shape; parameter = c.in-Ok.ensures.parameter; best = c.in-Ok.ensures.point; text_is = refl }

@@ -8,7 +8,7 @@ ghost use Rattle.pf_lines.specs.Reading.{Agrees};
 ghost use Rattle.pf_io.specs.Faults.{HasCause};
 ghost use Rattle.pf_io.specs.Told.{IsFrontOf, after_told};
 ghost use Rattle.pf_io.specs.Printing.{Adds, is_spent};
-ghost use Rattle.pf_top.specs.Task.{Name, task_of, ProblemOf, answer, check};
+ghost use Rattle.pf_top.specs.Job.{Row, job_of, ProblemOf, answer, check};
 ghost use Rattle.pf_top.specs.Answering.{IsBadText, IsReadTo, IsRefused, IsProblemOf};
 ghost use Rattle.pf_top.specs.Running.{TookWhole, IsEnd};
 
@@ -26,8 +26,31 @@ pub enum Stop {
     NoMemory,
 }
 
+impl From<NoMemory> for Stop {
+    ghost use Rattle.pf_top.specs.declared.job.Stop.TheVariants.{NoMemory};
+
+    ghost from_gives = { λ _ stop. stop ≡ NoMemory };
+
+    fn from(_error: NoMemory) -> Stop {
+        Stop::NoMemory
+    }
+}
+
+impl From<Stop> for Status {
+    ghost use Rattle.pf_top.specs.Answering.{status_of};
+
+    ghost from_gives = { λ stop status. status ≡ status_of stop };
+
+    fn from(stop: Stop) -> Status {
+        match stop {
+            Stop::Refused(refusal) => Status::Refused(refusal),
+            Stop::NoMemory => Status::NoMemory,
+        }
+    }
+}
+
 /// A command, which is one row of the table.
-pub trait Task {
+pub trait Job {
     /// What its text gives.
     type Problem: Drop;
 
@@ -35,10 +58,10 @@ pub trait Task {
     type Answer: Drop;
 
     // Its row.
-    ghost name: { Self → Name };
+    ghost row_of: { Self → Row };
 
     // The problem as the row has it, and the text of an answer.
-    ghost problem_of: { (task : Self) → Self.Problem → ProblemOf (name task) };
+    ghost problem_of: { (job : Self) → Self.Problem → ProblemOf (row_of job) };
 
     ghost text_of: { Self → Self.Problem → Self.Answer → List ℕ };
 
@@ -47,16 +70,16 @@ pub trait Task {
 
     /// Reads the problem, and leaves the reader of lines behind its line `end`.
     fn read(&self, alloc: Global, lines: &mut Lines<'_>) -> Result<Self::Problem, ReadBad>
-        ensures judged { Agrees (problem_of_lines (task_of (name self.now)).kind (lines_left lines.old))
+        ensures judged { Agrees (problem_of_lines (job_of (row_of self.now)).kind (lines_left lines.old))
             (λ p. record { problem = problem_of self.now p; rest = lines.new.rest; line = lines.new.number }) result };
 
     /// Finds the answer, or the reason against the problem.
     fn solve(&self, alloc: Global, problem: &Self::Problem) -> Result<Self::Answer, Stop>
         ensures found { IfOk result (is_found self.now problem.now) }
-        ensures right { IfOk result (λ a. (task_of (name self.now)).IsRight (problem_of self.now problem.now) (text_of self.now problem.now a)) }
-        ensures passed { IfOk result (λ _. (task_of (name self.now)).refusal (problem_of self.now problem.now) ≡ None) }
+        ensures right { IfOk result (λ a. (job_of (row_of self.now)).IsRight (problem_of self.now problem.now) (text_of self.now problem.now a)) }
+        ensures passed { IfOk result (λ _. (job_of (row_of self.now)).refusal (problem_of self.now problem.now) ≡ None) }
         ensures refused { (refusal : Refusal) → result ≡ Err (Stop.Refused refusal)
-            → (task_of (name self.now)).refusal (problem_of self.now problem.now) ≡ Some refusal }
+            → (job_of (row_of self.now)).refusal (problem_of self.now problem.now) ≡ Some refusal }
         ensures short { (refusal : Refusal) → result ≡ Err (Stop.Refused refusal) → refusal ≢ Refusal.TooLong };
 
     /// Prints the answer. It takes no memory.
@@ -72,11 +95,11 @@ pub trait Task {
 }
 
 // The problem that the lines give. The reader is left behind the line `end`.
-fn read_problem<T: Task>(task: &T, alloc: Global, lines: &mut Lines<'_>) -> Result<T::Problem, Stop>
-    ensures read { IfOk result (λ p. IsReadTo (T.name task.now) lines.old lines.new (T.problem_of task.now p)) }
-    ensures refused { (refusal : Refusal) → result ≡ Err (Stop.Refused refusal) → IsBadText (T.name task.now) lines.old refusal }
+fn read_problem<T: Job>(job: &T, alloc: Global, lines: &mut Lines<'_>) -> Result<T::Problem, Stop>
+    ensures read { IfOk result (λ p. IsReadTo (T.row_of job.now) lines.old lines.new (T.problem_of job.now p)) }
+    ensures refused { (refusal : Refusal) → result ≡ Err (Stop.Refused refusal) → IsBadText (T.row_of job.now) lines.old refusal }
 {
-    match task.read(alloc, lines) {
+    match job.read(alloc, lines) {
         Ok(problem) => Ok(problem),
         Err(ReadBad::Text(bad)) => Err(Stop::Refused(Refusal::Text(bad))),
         Err(ReadBad::NoMemory) => Err(Stop::NoMemory),
@@ -84,13 +107,13 @@ fn read_problem<T: Task>(task: &T, alloc: Global, lines: &mut Lines<'_>) -> Resu
 }
 
 // The problem of a text with nothing behind it.
-fn read_alone<T: Task>(task: &T, alloc: Global, bytes: &[u8]) -> Result<T::Problem, Stop>
+fn read_alone<T: Job>(job: &T, alloc: Global, bytes: &[u8]) -> Result<T::Problem, Stop>
     requires short { length bytes.now ≤ 2 ^ 29 }
-    ensures read { IfOk result (λ p. IsProblemOf (T.name task.now) bytes.now (T.problem_of task.now p)) }
-    ensures refused { (refusal : Refusal) → result ≡ Err (Stop.Refused refusal) → IsRefused (answer (T.name task.now)) bytes.now refusal }
+    ensures read { IfOk result (λ p. IsProblemOf (T.row_of job.now) bytes.now (T.problem_of job.now p)) }
+    ensures refused { (refusal : Refusal) → result ≡ Err (Stop.Refused refusal) → IsRefused (answer (T.row_of job.now)) bytes.now refusal }
 {
     let mut lines = Lines::new(alloc, bytes);
-    let problem = read_problem(task, alloc, &mut lines)?;
+    let problem = read_problem(job, alloc, &mut lines)?;
     match lines.next() {
         None => Ok(problem),
         Some(line) => Err(Stop::Refused(Refusal::Text(TextBad::Syntax(line.number())))),
@@ -98,46 +121,44 @@ fn read_alone<T: Task>(task: &T, alloc: Global, bytes: &[u8]) -> Result<T::Probl
 }
 
 // Hands the text of the answer to the sink.
-fn hand_out<T: Task, O: Sink>(
-    task: &T,
+fn hand_out<T: Job, O: Sink>(
+    job: &T,
     problem: &T::Problem,
     answer: &T::Answer,
     out: &mut O,
 ) -> Result<(), Failed>
-    requires { T.is_found task.now problem.now answer.now }
-    ensures whole { OnOk result (TookWhole O.Sink out.old out.new (T.text_of task.now problem.now answer.now)) }
+    requires { T.is_found job.now problem.now answer.now }
+    ensures whole { OnOk result (TookWhole O.Sink out.old out.new (T.text_of job.now problem.now answer.now)) }
     ensures grows { IsFrontOf (O.taken out.old) (O.taken out.new) }
-    ensures front { IsFrontOf (O.taken out.new) (after_told (O.taken out.old) (T.text_of task.now problem.now answer.now)) }
+    ensures front { IsFrontOf (O.taken out.new) (after_told (O.taken out.old) (T.text_of job.now problem.now answer.now)) }
     ensures cause { HasCause (O.faults out.old) (O.faults out.new) result }
 {
     let mut printer = Printer::new(out);
-    task.write(&mut printer, problem, answer)?;
+    job.write(&mut printer, problem, answer)?;
     printer.finish()
 }
 
 /// The answer to a command. It is found whole before its first byte goes out.
-pub fn answer<T: Task, O: Sink>(task: &T, alloc: Global, bytes: &[u8], out: &mut O) -> Status
+pub fn answer<T: Job, O: Sink>(job: &T, alloc: Global, bytes: &[u8], out: &mut O) -> Status
     requires short { length bytes.now ≤ 2 ^ 29 }
-    ensures { IsEnd O.Sink out.old out.new (answer (T.name task.now)) bytes.now result }
+    ensures { IsEnd O.Sink out.old out.new (answer (T.row_of job.now)) bytes.now result }
 {
-    let problem = match read_alone(task, alloc, bytes) {
+    let problem = match read_alone(job, alloc, bytes) {
         Ok(problem) => problem,
-        Err(Stop::Refused(refusal)) => return Status::Refused(refusal),
-        Err(Stop::NoMemory) => return Status::NoMemory,
+        Err(stop) => return Status::from(stop),
     };
-    let answer = match task.solve(alloc, &problem) {
+    let answer = match job.solve(alloc, &problem) {
         Ok(answer) => answer,
-        Err(Stop::Refused(refusal)) => return Status::Refused(refusal),
-        Err(Stop::NoMemory) => return Status::NoMemory,
+        Err(stop) => return Status::from(stop),
     };
-    match hand_out(task, &problem, &answer, out) {
+    match hand_out(job, &problem, &answer, out) {
         Ok(()) => Status::Done,
         Err(_) => Status::WriteFault,
     }
 }
 
 /// A command whose answers can be checked apart from how they were found.
-pub trait Checked: Task {
+pub trait Checked: Job {
     /// Whether the text certifies the problem's answer.
     fn certifies(
         &self,
@@ -146,7 +167,7 @@ pub trait Checked: Task {
         text: &[u8],
     ) -> Result<bool, NoMemory>
         ensures { IfOk result (λ holds. (holds ≡ true)
-            ↔ (task_of (Self.name self.now)).Certifies (Self.problem_of self.now problem.now) text.now) };
+            ↔ (job_of (Self.row_of self.now)).Certifies (Self.problem_of self.now problem.now) text.now) };
 }
 
 // The text of a verdict.
@@ -180,17 +201,16 @@ fn verdict_status(holds: bool) -> Status
 }
 
 /// The verdict on the text behind the problem.
-pub fn check<T: Checked, O: Sink>(task: &T, alloc: Global, bytes: &[u8], out: &mut O) -> Status
+pub fn check<T: Checked, O: Sink>(job: &T, alloc: Global, bytes: &[u8], out: &mut O) -> Status
     requires short { length bytes.now ≤ 2 ^ 29 }
-    ensures { IsEnd O.Sink out.old out.new (check (T.name task.now)) bytes.now result }
+    ensures { IsEnd O.Sink out.old out.new (check (T.row_of job.now)) bytes.now result }
 {
     let mut lines = Lines::new(alloc, bytes);
-    let problem = match read_problem(task, alloc, &mut lines) {
+    let problem = match read_problem(job, alloc, &mut lines) {
         Ok(problem) => problem,
-        Err(Stop::Refused(refusal)) => return Status::Refused(refusal),
-        Err(Stop::NoMemory) => return Status::NoMemory,
+        Err(stop) => return Status::from(stop),
     };
-    let holds = match task.certifies(alloc, &problem, lines.rest()) {
+    let holds = match job.certifies(alloc, &problem, lines.rest()) {
         Ok(holds) => holds,
         Err(_) => return Status::NoMemory,
     };

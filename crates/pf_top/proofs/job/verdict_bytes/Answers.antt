@@ -1,6 +1,6 @@
 use Rattle.std.proofs.Common.{refl}
 use Rattle.pf_text.specs.Verdict.{verdict_text}
-use Rattle.pf_top.proofs.task.verdict_bytes.Goals as goal
+use Rattle.pf_top.proofs.job.verdict_bytes.Goals as goal
 
 pub returns-then-holds : goal.returns-then-holds
 unfolding verdict_text
