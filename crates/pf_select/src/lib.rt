@@ -7,8 +7,6 @@ mod checking;
 mod dropping;
 pub mod laws;
 mod schedule;
-#[cfg(test)]
-mod tests;
 mod worth;
 
 pub use catalogue::Catalogue;
