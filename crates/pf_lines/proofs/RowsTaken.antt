@@ -1,13 +1,14 @@
 -- Lines of numbers, sides and fractions, taken from the front of a text piece by piece.
-use Rattle.std.proofs.Common.{◌≡◌, ℕ, ◌+◌, ◌<◌, List, [], ◌∷◌, ◌++◌, length, map, drop, get_or, add-one, Bool, refl, sym, ap, ◌∙◌, append_assoc}
-use Rattle.std.specs.Prelude.{ℤ}
+use Rattle.std.proofs.Common.{◌≡◌, ℕ, ◌+◌, ◌<◌, ◌≤◌, arith, List, [], ◌∷◌, ◌++◌, length, map, drop, get_or, add-one, Bool, refl, sym, ap, ◌∙◌, append_assoc}
+use Rattle.std.specs.Prelude.{ℤ, ◌≤ℤ◌, pos}
 use Rattle.std.specs.Fmt.{decimal, signed_decimal}
+use Rattle.std.proofs.lemmas.Int.{ints}
 use Rattle.std.proofs.lemmas.List.{append-nil}
 use Rattle.std.proofs.Math.Seq.{drop-cons}
 use Rattle.pf_model.specs.Fraction.{Fraction}
 use Rattle.pf_text.specs.Spelling.{line, spaced, rest_of_line, head, head_text, side_text, numbers_text, fraction_text}
 use Rattle.pf_text.proofs.SpellingLemmas.{head_then, line_then}
-use Rattle.pf_lines.specs.Taking.{Stops, IsBetween, IsRow}
+use Rattle.pf_lines.specs.Taking.{Stops, IsBetween, IsRow, AreLabels}
 use Rattle.pf_lines.specs.declared.taking.Valued.{Valued}
 use Rattle.pf_lines.proofs.ItemsTaken.{Items, Stand}
 
@@ -28,6 +29,29 @@ number_items min max = record {
 pub numbers_stand : (width : ℕ) (min max : ℤ) (old : List ℕ) (numbers : List ℤ) (rest : List ℕ) → IsRow width min max numbers → Stops rest → old ≡ numbers_text numbers ++ rest
     → Stand (number_items min max) width old numbers rest
 numbers_stand width min max old numbers rest row stops there = record { full = row.full; each = row.each; behind = stops; text = there }
+
+-- labels, each with a space in front
+abbrev pub label_items : ℕ → Items ℕ
+label_items most = record {
+  text = λ j labels. spaced (map decimal labels);
+  item = λ j label. 32 ∷ decimal label;
+  none = λ j. refl;
+  more = λ j label labels. refl;
+  Is = λ label. (1 ≤ label) × (label ≤ most);
+  MayFollow = Stops;
+  follows = λ j label rest. refl;
+}
+
+pub labels_stand : (width most : ℕ) (old labels rest : List ℕ) → AreLabels width most labels → Stops rest → old ≡ spaced (map decimal labels) ++ rest → Stand (label_items most) width old labels rest
+labels_stand width most old labels rest row stops there = record { full = row.full; each = row.each; behind = stops; text = there }
+
+-- the number of a label is one from 1 to the most
+pub label_found : (most : ℕ) (P : ℤ → List ℕ → Type 0) (now : List ℕ) → ((n : ℤ) (rest : List ℕ) → pos 1 ≤ℤ n → n ≤ℤ pos most → Stops rest → now ≡ (32 ∷ signed_decimal n) ++ rest → P n rest)
+    → (label : ℕ) (rest : List ℕ) → (1 ≤ label) × (label ≤ most) → Stops rest → now ≡ (32 ∷ decimal label) ++ rest → P (pos label) rest
+label_found most P now found label rest is stops there =
+    let low = is.0 in
+    let high = is.1 in
+    found (pos label) rest (omega (arith, ints, low)) (omega (arith, ints, high)) stops there
 
 -- the nodes of a side
 abbrev pub side_items : Items Bool

@@ -1,5 +1,5 @@
 -- What a call answers that takes a piece of a text from its front.
-use Rattle.std.specs.Prelude.{◌≡◌, ℕ, ℤ, ◌≤ℤ◌, ◌^◌, false, List, [], ◌∷◌, length, All, Result, Ok, Err}
+use Rattle.std.specs.Prelude.{◌≡◌, ℕ, ℤ, ◌≤ℤ◌, ◌≤◌, ◌^◌, false, List, [], ◌∷◌, length, All, Result, Ok, Err}
 use Rattle.pf_model.specs.Answer.{IsFractionShape, IsWithinSize}
 use Rattle.pf_text.specs.Numbers.{is_digit}
 use Rattle.pf_text.specs.Spelling.{fraction_line}
@@ -37,6 +37,11 @@ pub record IsBetween (min max number : ℤ) : Type 0 where
 pub record IsRow (width : ℕ) (min max : ℤ) (numbers : List ℤ) : Type 0 where
   pub full : length numbers ≡ width
   pub each : All (IsBetween min max) numbers
+
+-- so many labels, each from 1 to the most
+pub record AreLabels (width most : ℕ) (labels : List ℕ) : Type 0 where
+  pub full : length labels ≡ width
+  pub each : All (λ label. (1 ≤ label) × (label ≤ most)) labels
 
 -- a fraction, and a value there of a size below 2^120
 pub record IsValued (point : Valued) : Type 0 where

@@ -1,10 +1,10 @@
 // Pieces of a text with one spelling, taken from its front.
-ghost use Rattle.std.specs.Prelude.{◌≡◌, ◌++◌, ◌∷◌, [], ◌≤ℤ◌, ◌≤◌, ◌^◌, ℕ, ℤ, Bool, List, length, map, IfOk, IfSome, IfNone};
+ghost use Rattle.std.specs.Prelude.{◌≡◌, ◌++◌, ◌∷◌, [], ◌≤ℤ◌, ◌≤◌, ◌^◌, ℕ, ℤ, Bool, List, length, map, pos, ◌-◌, IfOk, IfSome, IfNone, MatchResult};
 ghost use Rattle.std.specs.Fmt.{decimal, signed_decimal};
 ghost use Rattle.pf_model.specs.Fraction.{Fraction, IsBoundedFraction, IsLowest};
 ghost use Rattle.pf_model.specs.Answer.{IsFractionShape, IsWithinSize};
-ghost use Rattle.pf_text.specs.Spelling.{side_text, spaced, rest_of_line, fraction_text, numbers_text, head_text, row_line, fraction_line, side_line};
-ghost use Rattle.pf_lines.specs.Taking.{Passes, Stops, Takes, IsRow, IsValued, valued_line};
+ghost use Rattle.pf_text.specs.Spelling.{side_text, spaced, rest_of_line, fraction_text, numbers_text, head_text, row_line, fraction_line, side_line, label_line};
+ghost use Rattle.pf_lines.specs.Taking.{Passes, Stops, Takes, IsExcused, IsRow, AreLabels, IsValued, valued_line};
 ghost use Rattle.pf_lines.specs.declared.taking.Valued.{Valued};
 
 use crate::errors::AnswerBad;
@@ -248,6 +248,55 @@ pub fn take_side_row(
     take_head(text, word, indices)?;
     let side = take_rest_side(alloc, nodes, text)?;
     Ok(side)
+}
+
+// The label of this number.
+fn label_of(number: i128) -> u32
+    requires low { pos 0 ≤ℤ number }
+    requires high { number ≤ℤ pos (2 ^ 32 - 1) }
+    ensures { pos result ≡ number }
+{
+    number as u32
+}
+
+// So many labels from 1 to `most`, each with a space in front.
+fn take_label_fields(
+    alloc: Global,
+    width: usize,
+    most: u32,
+    text: &mut Exact<'_>,
+) -> Result<Vec<u32>, AnswerBad>
+    ensures taken { IfOk result (λ labels. text.old ≡ spaced (map decimal labels.items) ++ text.new) }
+    ensures shape { IfOk result (λ labels. AreLabels width most labels.items) }
+    ensures found { (labels : List ℕ) (rest : List ℕ) → AreLabels width most labels → Stops rest
+        → text.old ≡ spaced (map decimal labels) ++ rest → MatchResult result (λ taken. (taken.items ≡ labels) × (text.new ≡ rest)) IsExcused }
+{
+    let mut labels = Vec::with_capacity(alloc, width)?;
+    'labels: for _i in 0..width {
+        let number = take_number(text, 1, i128::from(most))?;
+        labels.push(label_of(number))?;
+    }
+    Ok(labels)
+}
+
+/// A line of so many labels from 1 to `most`, as `s L1 .. LN` and `s J L1 .. LN`.
+pub fn take_labels(
+    alloc: Global,
+    word: &[u8],
+    indices: &[usize],
+    width: usize,
+    most: u32,
+    text: &mut Exact<'_>,
+) -> Result<Vec<u32>, AnswerBad>
+    ensures taken { IfOk result (λ labels. text.old ≡ label_line word.now indices.now labels.items ++ text.new) }
+    ensures shape { IfOk result (λ labels. AreLabels width most labels.items) }
+    ensures found { (labels : List ℕ) (rest : List ℕ) → AreLabels width most labels
+        → text.old ≡ label_line word.now indices.now labels ++ rest → MatchResult result (λ taken. (taken.items ≡ labels) × (text.new ≡ rest)) IsExcused }
+{
+    take_head(text, word, indices)?;
+    let labels = take_label_fields(alloc, width, most, text)?;
+    take_word(text, b"\n")?;
+    Ok(labels)
 }
 
 /// A line of a count from `least` on, as `k K`, of no more than bytes stand behind it: so what is read for each of what is

@@ -319,7 +319,7 @@ par_invariant : IsInvariant par IsGoodState IsGoodNetwork
 unfolding par
 par_invariant = record {
   begins = header_begins;
-  kept = λ state good. (λ numbers. interval_line numbers state good, (λ numbers. end_line Source numbers state good, (λ numbers. end_line Sink numbers state good, (λ numbers. arc_line numbers state good, tt))));
+  kept = λ state good. (λ numbers. arc_line numbers state good, (λ numbers. end_line Source numbers state good, (λ numbers. end_line Sink numbers state good, (λ numbers. interval_line numbers state good, tt))));
   ends = λ state net good all. end_is state net good;
 }
 

@@ -67,24 +67,25 @@ impl ProblemKind for Par {
             Pattern::Word(b"a"),
         );
         let node = Pattern::Number(1, i64::from(state.nodes));
+        // Arcs are the common lines, so their form comes first.
         let forms = [
+            LineForm::counted(alloc, &[word_a, node, node, COEFFICIENT, COEFFICIENT]),
+            LineForm::new(alloc, &[word_n, node, Pattern::Word(b"s")]),
+            LineForm::new(alloc, &[word_n, node, Pattern::Word(b"t")]),
             LineForm::new(
                 alloc,
                 &[word_i, COEFFICIENT, DENOMINATOR, COEFFICIENT, DENOMINATOR],
             ),
-            LineForm::new(alloc, &[word_n, node, Pattern::Word(b"s")]),
-            LineForm::new(alloc, &[word_n, node, Pattern::Word(b"t")]),
-            LineForm::counted(alloc, &[word_a, node, node, COEFFICIENT, COEFFICIENT]),
         ];
         Ok(Vec::from_array(alloc, forms)?)
     }
 
     fn take(&self, state: &mut ParState, form: usize, numbers: &[i64]) -> Result<(), LineBad> {
         match form {
-            0 => state.interval_line(numbers),
+            0 => state.arc_line(numbers),
             1 => state.end_line(End::Source, numbers),
             2 => state.end_line(End::Sink, numbers),
-            _ => state.arc_line(numbers),
+            _ => state.interval_line(numbers),
         }
     }
 
