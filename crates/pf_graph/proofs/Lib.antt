@@ -11,3 +11,6 @@ pub mod ByRule
 pub mod EdgeSums
 pub mod Rows
 pub mod WorkedOut
+pub mod TextLaw
+pub mod SlotLemmas
+pub mod LineLemmas

@@ -1,6 +1,6 @@
 -- Small graphs whose strength and principal partition are proved from the definition, over all lists of labels.
 use Rattle.std.proofs.Common.{◌≡◌, ◌≢◌, ℕ, zero, suc, ◌+◌, ◌<◌, ◌≤◌, List, [], ◌∷◌, length, get_or, take, refl, Bool, true, false, cond, eqb, not, ◌||◌, arith, sym, ◌∙◌}
-use Rattle.std.specs.Prelude.{◌+ℤ◌, ◌-ℤ◌, ◌*ℤ◌, ◌≤ℤ◌, pos}
+use Rattle.std.specs.Prelude.{ℤ, ◌+ℤ◌, ◌-ℤ◌, ◌*ℤ◌, ◌≤ℤ◌, pos}
 use Rattle.std.proofs.lemmas.Int.{ints}
 use Rattle.std.proofs.lemmas.Bool.{eq-eqb, eqb-true}
 use Rattle.pf_model.specs.Fraction.{IsParameter, IsBelow}
@@ -9,7 +9,7 @@ use Rattle.pf_graph.specs.WeightedGraph.{IsWeightedGraph}
 use Rattle.pf_graph.specs.Labels.{label, parts, greatest_label, IsPartition}
 use Rattle.pf_graph.specs.Best.{crossing_of, partition_value, IsBest, level_at, partition_at, IsLevels, IsInPiece}
 use Rattle.pf_graph.specs.Laws.{IsBestBetween}
-use Rattle.pf_graph.specs.Worked.{fraction, two, three, six, triangle, one_edge, TriangleStrength, NoTwoParts, NoSkippedLevel, EdgePrincipal}
+use Rattle.pf_graph.specs.Worked.{fraction, two, three, six, four, triangle, one_edge, two_apart, edges_apart, parallel_edges, TriangleStrength, NoTwoParts, NoSkippedLevel, EdgePrincipal, ApartPrincipal, ApartStrength, ParallelStrength}
 use Rattle.pf_graph.proofs.Principal.{principal_from_best}
 
 -- three labels
@@ -166,3 +166,96 @@ edge_between = record {
 
 pub edge_principal : EdgePrincipal
 edge_principal = principal_from_best one_edge (fraction 1 1 ∷ []) (two 1 1 ∷ (two 1 2 ∷ [])) edge_graph edge_between
+
+-- two vertices without an edge
+none_below : (P : ℕ → Type 0) (k : ℕ) → k < 0 → P k
+none_below P k h = absurd (omega (arith, h))
+
+apart_graph : IsWeightedGraph two_apart
+apart_graph = record {
+  some = omega arith;
+  graph = record { tails = none_below (λ i. _); heads = none_below (λ i. _) };
+  apart = none_below (λ i. _);
+  weights_full = refl;
+  costs_full = refl;
+  prices_full = refl;
+  weights_low = none_below (λ i. _);
+  costs_low = two_low;
+  prices_low = none_below (λ i. _);
+}
+
+apart_parameters : (j : ℕ) → j ≤ 0 → IsParameter (level_at [] j)
+apart_parameters zero h = omega (arith, ints)
+apart_parameters (suc j) h = absurd (omega (arith, h))
+
+apart_partition : (j : ℕ) → j ≤ 0 → IsPartition 2 (partition_at (two 1 2 ∷ []) j)
+apart_partition zero h = two_is 2 (omega arith) (omega arith)
+apart_partition (suc j) h = absurd (omega (arith, h))
+
+apart_levels : IsLevels 2 [] (two 1 2 ∷ [])
+apart_levels = record { count = refl; parameters = apart_parameters; rise = none_below (λ j. _); partition = apart_partition }
+
+apart_between : IsBestBetween two_apart [] (two 1 2 ∷ [])
+apart_between = record {
+  levels_are = apart_levels;
+  first = refl;
+  left = none_below (λ j. _);
+  right = none_below (λ j. _);
+  parts_rise = none_below (λ j. _);
+  last = refl;
+}
+
+pub apart_principal : ApartPrincipal
+apart_principal = principal_from_best two_apart [] (two 1 2 ∷ []) apart_graph apart_between
+
+-- two edges that do not meet
+four_low : (v : ℕ) → v < 4 → 1 ≤ label (four 1 1 2 2) v
+four_low zero h = omega arith
+four_low (suc zero) h = omega arith
+four_low (suc (suc zero)) h = omega arith
+four_low (suc (suc (suc zero))) h = omega arith
+four_low (suc (suc (suc (suc v)))) h = absurd (omega (arith, h))
+
+four_high : (v : ℕ) → v < 4 → label (four 1 1 2 2) v ≤ greatest_label (take v (four 1 1 2 2)) + 1
+four_high zero h = omega arith
+four_high (suc zero) h = omega arith
+four_high (suc (suc zero)) h = omega arith
+four_high (suc (suc (suc zero))) h = omega arith
+four_high (suc (suc (suc (suc v)))) h = absurd (omega (arith, h))
+
+apart_ratio : (p q : Bool) (n : ℤ) → (pos 0 *ℤ n) ≤ℤ (pos 1 *ℤ (cond (not p) (pos 1) (pos 0) +ℤ (cond (not q) (pos 1) (pos 0) +ℤ pos 0)))
+apart_ratio true true n = omega (arith, ints)
+apart_ratio true false n = omega (arith, ints)
+apart_ratio false true n = omega (arith, ints)
+apart_ratio false false n = omega (arith, ints)
+
+pub apart_strength : ApartStrength
+apart_strength = record {
+  partition = record { full = refl; low = four_low; high = four_high };
+  parameter = omega (arith, ints);
+  two = omega arith;
+  attained = refl;
+  least = λ other full some. apart_ratio (eqb (label other 0) (label other 1)) (eqb (label other 2) (label other 3)) (pos (parts other) -ℤ pos 1);
+}
+
+-- two edges between the same vertices
+parallel_ratio : (p r : Bool) → (r ≡ true → p ≡ true) → 2 ≤ cond (p || false) 0 1 + (1 + 0) →
+    (pos 5 *ℤ (pos (cond (p || false) 0 1 + (1 + 0)) -ℤ pos 1)) ≤ℤ (pos 1 *ℤ (cond (not p) (pos 2) (pos 0) +ℤ (cond (not r) (pos 3) (pos 0) +ℤ pos 0)))
+parallel_ratio true r h k = absurd (omega (arith, k))
+parallel_ratio false true h k = absurd (let e = h refl in cc)
+parallel_ratio false false h k = omega (arith, ints)
+
+parallel_least : (other : List ℕ) → length other ≡ 2 → 2 ≤ parts other → (pos 5 *ℤ (pos (parts other) -ℤ pos 1)) ≤ℤ (pos 1 *ℤ crossing_of parallel_edges other)
+parallel_least [] full some = absurd (omega arith)
+parallel_least (a ∷ []) full some = absurd (omega arith)
+parallel_least (a ∷ (b ∷ [])) full some = parallel_ratio (eqb a b) (eqb b a) (λ e. eq-eqb a b (sym (eqb-true b a e))) some
+parallel_least (a ∷ (b ∷ (c ∷ rest))) full some = absurd (omega arith)
+
+pub parallel_strength : ParallelStrength
+parallel_strength = record {
+  partition = two_is 2 (omega arith) (omega arith);
+  parameter = omega (arith, ints);
+  two = omega arith;
+  attained = refl;
+  least = parallel_least;
+}

@@ -5,3 +5,7 @@ pub mod Laws
 pub mod Limits
 pub mod Keeping
 pub mod Worked
+pub mod Text
+pub mod Gathered
+pub mod Counts
+pub mod TextLaws

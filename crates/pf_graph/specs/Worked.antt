@@ -95,3 +95,45 @@ uneven = record {
   costs = pos 1 ∷ (pos 5 ∷ (pos 7 ∷ []));
   prices = pos 3 ∷ (pos 9 ∷ (pos 8 ∷ []));
 }
+
+-- two vertices without an edge: single vertices are best at every level
+abbrev pub two_apart : WeightedGraph
+two_apart = record {
+  nodes = 2;
+  ends = [];
+  weights = [];
+  costs = pos 1 ∷ (pos 1 ∷ []);
+  prices = [];
+}
+
+abbrev pub ApartPrincipal : Type 0
+ApartPrincipal = IsPrincipal two_apart [] (two 1 2 ∷ [])
+
+-- two edges that do not meet: nothing crosses between them, so the strength is 0
+abbrev pub edges_apart : WeightedGraph
+edges_apart = record {
+  nodes = 4;
+  ends = (0, 1) ∷ ((2, 3) ∷ []);
+  weights = pos 1 ∷ (pos 1 ∷ []);
+  costs = pos 1 ∷ (pos 1 ∷ (pos 1 ∷ (pos 1 ∷ [])));
+  prices = pos 1 ∷ (pos 1 ∷ []);
+}
+
+abbrev pub four : ℕ → ℕ → ℕ → ℕ → List ℕ
+four a b c d = a ∷ (b ∷ (c ∷ (d ∷ [])))
+
+abbrev pub ApartStrength : Type 0
+ApartStrength = IsStrength edges_apart (fraction 0 1) (four 1 1 2 2)
+
+-- two edges between the same vertices, the one turned round: both cross
+abbrev pub parallel_edges : WeightedGraph
+parallel_edges = record {
+  nodes = 2;
+  ends = (0, 1) ∷ ((1, 0) ∷ []);
+  weights = pos 2 ∷ (pos 3 ∷ []);
+  costs = pos 1 ∷ (pos 1 ∷ []);
+  prices = pos 1 ∷ (pos 1 ∷ []);
+}
+
+abbrev pub ParallelStrength : Type 0
+ParallelStrength = IsStrength parallel_edges (fraction 5 1) (two 1 2)
