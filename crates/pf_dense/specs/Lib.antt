@@ -1,9 +1,12 @@
 pub mod Densest
 pub mod Certificate
 pub mod Answer
+pub mod Text
+pub mod Right
 pub mod Dropping
 pub mod Reduction
 pub mod Newton
 pub mod Weighing
 pub mod Carrying
 pub mod Laws
+pub mod Worked

@@ -1,16 +1,20 @@
 // The test of a densest set.
-ghost use Rattle.std.specs.Prelude.{◌≡◌, ◌↔◌, IsTrue, ℕ, ◌<◌, ◌≤◌, length, not};
+ghost use Rattle.std.specs.Prelude.{◌≡◌, ◌↔◌, IsTrue, IfOk, ℕ, ◌<◌, ◌≤◌, length, not, true};
 ghost use Rattle.std.specs.Bool.{OnTrue};
 ghost use Rattle.pf_model.specs.Cut.{has};
 ghost use Rattle.pf_frame.specs.Scratch.{Serves, KeepsPlaces};
 ghost use Rattle.pf_dense.specs.Densest.{IsNonempty, IsDensest};
 ghost use Rattle.pf_dense.specs.Certificate.{CertifiesDense};
+ghost use Rattle.pf_dense.specs.Right.{IsCertifiedDense};
 
 use crate::charging::{are_charges, are_within, write_charged};
 use crate::dense::Dense;
 use crate::dropping::mark_dropped;
-use pf_frame::Scratch;
+use crate::text::read_dense;
+use pf_frame::{NoMemory, Scratch};
 use pf_graph::Graph;
+use pf_lines::AnswerBad;
+use std::alloc::Global;
 
 // Whether each vertex is chosen exactly where it is not marked.
 fn is_rest(chosen: &[bool], marks: &[bool]) -> bool
@@ -67,4 +71,30 @@ pub fn check_dense(graph: &Graph, answer: &Dense, scratch: &mut Scratch) -> bool
         return false;
     }
     has_some(chosen)
+}
+
+/// Whether the answer's charges certify it, as `check_dense` tests it. The working room is taken and given back here.
+pub fn is_certified(alloc: Global, graph: &Graph, answer: &Dense) -> Result<bool, NoMemory>
+    requires chosen { length answer.now.chosen ≡ graph.now.nodes }
+    requires charges { length answer.now.charges ≡ length graph.now.ends }
+    ensures { IfOk result (λ holds. (holds ≡ true) ↔ CertifiesDense graph.now answer.now.density answer.now.chosen answer.now.charges) }
+{
+    let vertices = graph.vertices() as usize;
+    let edges = graph.edges() as usize;
+    let mut scratch = Scratch::make(alloc, vertices, edges)?;
+    Ok(check_dense(graph, answer, &mut scratch))
+}
+
+/// Whether the text is that of an answer for the graph whose certificate holds.
+pub fn is_certified_dense_text(alloc: Global, graph: &Graph, text: &[u8]) -> Result<bool, NoMemory>
+    ensures { IfOk result (λ holds. (holds ≡ true) ↔ IsCertifiedDense graph.now text.now) }
+{
+    // It tells the limits of the graph.
+    let _ = graph.vertices();
+    let answer = match read_dense(alloc, graph, text) {
+        Ok(answer) => answer,
+        Err(AnswerBad::NotText) => return Ok(false),
+        Err(AnswerBad::NoMemory) => return Err(NoMemory),
+    };
+    is_certified(alloc, graph, &answer)
 }
