@@ -1,6 +1,6 @@
 -- The certificate proves the strength.
-use Rattle.std.proofs.Common.{◌≡◌, ℕ, List, arith, ap, sym, ◌∙◌}
-use Rattle.std.specs.Prelude.{ℤ, ◌+ℤ◌, ◌-ℤ◌, ◌*ℤ◌, ◌≤ℤ◌, pos}
+use Rattle.std.proofs.Common.{◌≡◌, ℕ, arith, ap, sym, ◌∙◌}
+use Rattle.std.specs.Prelude.{ℤ, ◌+ℤ◌, ◌-ℤ◌, ◌*ℤ◌, pos}
 use Rattle.std.proofs.lemmas.Int.{ints}
 use Rattle.pf_model.proofs.Integers.{mul_add, mul_comm}
 use Rattle.pf_frame.specs.Lending.{row_at}

@@ -1,5 +1,5 @@
 -- The steps of Newton's iteration.
-use Rattle.std.proofs.Common.{◌≡◌, ℕ, ◌<◌, ◌≤◌, List, length, arith, ap, sym, ◌∙◌, inl, inr, subst}
+use Rattle.std.proofs.Common.{◌≡◌, ℕ, ◌<◌, ◌≤◌, List, length, arith, ap, sym, inl, inr, subst}
 use Rattle.std.specs.Prelude.{ℤ, ◌+ℤ◌, ◌-ℤ◌, ◌*ℤ◌, ◌≤ℤ◌, ◌<ℤ◌, pos, Some}
 use Rattle.std.proofs.lemmas.Int.{ints, by_lt_z}
 use Rattle.std.proofs.lemmas.Bool.{cases_eq}
@@ -12,9 +12,9 @@ use Rattle.pf_graph.specs.Laws.{level_above}
 use Rattle.pf_graph.proofs.Counting.{parts_some}
 use Rattle.pf_graph.proofs.Levels.{crossing_low, crossing_high, single_best, fewer_parts}
 use Rattle.pf_graph.proofs.SamePartition.{same_partition}
-use Rattle.pf_forest.specs.Forest.{ForestState, IsFilled, MeetsTotal}
+use Rattle.pf_forest.specs.Forest.{ForestState, IsFilled}
 use Rattle.pf_forest.proofs.Law.{worth_of}
-use Rattle.pf_strength.specs.Newton.{HasRatio, IsBestAbove, IsStep, IsLast}
+use Rattle.pf_strength.specs.Newton.{HasRatio, IsStep, IsLast}
 use Rattle.pf_strength.proofs.Certificate.{worth_is}
 
 -- a fraction that is equal to the crossing weight over the number of parts less one

@@ -1,19 +1,18 @@
 -- The whole answer: its shape and its certificate, and the parts of the test.
-use Rattle.std.proofs.Common.{◌≡◌, ℕ, ◌+◌, ◌<◌, ◌≤◌, ◌^◌, List, [], length, refl, arith, subst, zero-add}
-use Rattle.std.specs.Prelude.{ℤ, ◌-ℤ◌, ◌*ℤ◌, ◌≤ℤ◌, pos}
+use Rattle.std.proofs.Common.{◌≡◌, ℕ, ◌+◌, ◌<◌, ◌^◌, List, [], refl, arith, subst, zero-add}
+use Rattle.std.specs.Prelude.{ℤ, ◌≤ℤ◌, pos}
 use Rattle.std.proofs.lemmas.Int.{ints}
-use Rattle.pf_model.specs.Cut.{at_arc}
 use Rattle.pf_model.specs.Fraction.{Fraction, IsParameter}
 use Rattle.pf_frame.specs.Lending.{row_at}
 use Rattle.pf_frame.specs.Numbers.{IsSized}
 use Rattle.pf_frame.proofs.FlowTest.{sized_of_bounded}
-use Rattle.pf_graph.specs.WeightedGraph.{WeightedGraph, IsWeightedGraph, digraph_of}
+use Rattle.pf_graph.specs.WeightedGraph.{WeightedGraph, digraph_of}
 use Rattle.pf_graph.specs.Labels.{parts, IsPartition}
 use Rattle.pf_graph.specs.Best.{crossing_of}
 use Rattle.pf_graph.specs.Limits.{IsWithinLimits}
 use Rattle.pf_forest.specs.Forest.{ForestState, IsSplit, AreSplits, AddsSplits, IsInRange, MeetsTotal}
 use Rattle.pf_forest.proofs.Bounds.{range_bounded}
-use Rattle.pf_strength.specs.Strength.{StrengthAnswer, IsStrengthShape, CertifiesStrength}
+use Rattle.pf_strength.specs.Strength.{StrengthAnswer, FitsGraph, CertifiesStrength}
 use Rattle.pf_strength.specs.Newton.{IsLast}
 use Rattle.pf_strength.specs.Testing.{IsRatio}
 use Rattle.pf_strength.proofs.Certificate.{worth_is}
@@ -28,16 +27,16 @@ split_at g x vector splits a r low =
     let P : ℕ → Type 0 = λ k. IsSplit (digraph_of g) x.p vector (row_at splits k) r in
     subst P (zero-add r) (a.each r low)
 
-sized_split : (g : WeightedGraph) (p : ℤ) (vector shares : List ℤ) (r : ℕ) → IsSized (digraph_of g) vector → IsSplit (digraph_of g) p vector shares r → IsSized (digraph_of g) shares
+pub sized_split : (g : WeightedGraph) (p : ℤ) (vector shares : List ℤ) (r : ℕ) → IsSized (digraph_of g) vector → IsSplit (digraph_of g) p vector shares r → IsSized (digraph_of g) shares
 sized_split g p vector shares r v s = record {
   full = s.full;
   low = λ i low. let a = s.low i low in omega (arith, ints, a);
   high = λ i low. let a = s.high i low in let b = v.high i low in omega (arith, ints, a, b);
 }
 
-pub shape_of : (g : WeightedGraph) (x : Fraction) (labels : List ℕ) (forest : ForestState) (splits : List (List ℤ)) → IsWithinLimits g → IsLast g x labels forest →
-    x.q ≤ℤ pos (2 ^ 46) → AddsSplits g x forest.vector [] splits g.nodes → IsStrengthShape g (answer_of x labels forest.vector splits)
-shape_of g x labels forest splits limits last high adds =
+pub fits_of : (g : WeightedGraph) (x : Fraction) (labels : List ℕ) (forest : ForestState) (splits : List (List ℤ)) → IsWithinLimits g → IsLast g x labels forest →
+    x.q ≤ℤ pos (2 ^ 46) → AddsSplits g x forest.vector [] splits g.nodes → FitsGraph g (answer_of x labels forest.vector splits)
+fits_of g x labels forest splits limits last high adds =
     let v = sized_of_bounded (digraph_of g) forest.vector (range_bounded g x forest.vector limits last.ratio.parameter high last.range) in
     let rows = adds.rows in
     record {

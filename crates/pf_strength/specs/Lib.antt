@@ -1,4 +1,7 @@
 pub mod Strength
+pub mod Text
+pub mod Right
 pub mod Newton
 pub mod Testing
 pub mod StrengthLaws
+pub mod Worked

@@ -1,5 +1,6 @@
 -- A strength with its certificate.
 use Rattle.std.specs.Prelude.{◌≡◌, ℕ, ◌<◌, ◌≤◌, ℤ, ◌-ℤ◌, ◌*ℤ◌, pos, List, length}
+use Rattle.pf_model.specs.Answer.{IsFractionShape}
 use Rattle.pf_model.specs.Fraction.{Fraction}
 use Rattle.pf_frame.specs.Lending.{row_at}
 use Rattle.pf_frame.specs.Numbers.{IsSized}
@@ -15,12 +16,17 @@ pub record StrengthAnswer : Type 0 where
   pub vector : List ℤ
   pub splits : List (List ℤ)
 
--- its shape: one label per vertex, one number per edge, and one row of such numbers per vertex, each of a size below 2 ^ 104
-pub record IsStrengthShape (g : WeightedGraph) (a : StrengthAnswer) : Type 0 where
+-- its lists fit the graph: one label per vertex, one number per edge, and one row of such numbers per vertex, each of a size below 2 ^ 104
+pub record FitsGraph (g : WeightedGraph) (a : StrengthAnswer) : Type 0 where
   pub partition : IsPartition g.nodes a.parts
   pub vector : IsSized (digraph_of g) a.vector
   pub rows : length a.splits ≡ g.nodes
   pub splits : (r : ℕ) → r < g.nodes → IsSized (digraph_of g) (row_at a.splits r)
+
+-- its shape: a level in lowest terms within its widths, and lists that fit the graph
+pub record IsStrengthShape (g : WeightedGraph) (a : StrengthAnswer) : Type 0 where
+  pub level : IsFractionShape a.level
+  pub fits : FitsGraph g a
 
 -- The certificate: the partition has at least two parts, its ratio is the level, and the forest condition holds with it.
 pub record CertifiesStrength (g : WeightedGraph) (a : StrengthAnswer) : Type 0 where

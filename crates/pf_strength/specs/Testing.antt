@@ -1,5 +1,5 @@
 -- What the parts of the test tell.
-use Rattle.std.specs.Prelude.{◌≡◌, ℕ, ◌≤◌, ℤ, ◌≤ℤ◌, pos, List}
+use Rattle.std.specs.Prelude.{◌≡◌, ℕ, ◌≤◌, ◌≤ℤ◌, pos, List}
 use Rattle.pf_model.specs.Fraction.{Fraction}
 use Rattle.pf_graph.specs.WeightedGraph.{WeightedGraph}
 use Rattle.pf_graph.specs.Labels.{parts}

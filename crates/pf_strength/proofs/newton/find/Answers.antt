@@ -1,5 +1,4 @@
 use Rattle.std.proofs.Common.{◌≡◌, ℕ, List, to_z, of_z, arith, ap, ◌∙◌, subst}
-use Rattle.std.specs.Prelude.{◌<ℤ◌, pos}
 use Rattle.std.proofs.lemmas.Int.{ints}
 use Rattle.pf_graph.specs.WeightedGraph.{WeightedGraph}
 use Rattle.pf_graph.specs.Labels.{parts, IsPartitionOf}

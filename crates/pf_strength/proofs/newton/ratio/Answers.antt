@@ -1,7 +1,7 @@
 use Rattle.std.proofs.Common.{◌≡◌, to_z, of_z, arith, subst}
 use Rattle.std.specs.Prelude.{ℤ, ◌-ℤ◌, pos}
 use Rattle.std.proofs.lemmas.Int.{ints}
-use Rattle.pf_model.specs.Fraction.{Fraction, IsEqual}
+use Rattle.pf_model.specs.Fraction.{IsEqual}
 use Rattle.pf_graph.specs.Labels.{parts}
 use Rattle.pf_graph.specs.Best.{crossing_of}
 use Rattle.pf_graph.proofs.Counting.{parts_most}

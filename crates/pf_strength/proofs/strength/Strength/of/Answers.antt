@@ -1,13 +1,12 @@
 use Rattle.std.proofs.Common.{◌≡◌, ℕ, List, ap, sym, ◌∙◌, subst}
 use Rattle.std.specs.Prelude.{ℤ}
-use Rattle.pf_graph.specs.WeightedGraph.{WeightedGraph}
 use Rattle.pf_graph.specs.Labels.{parts, IsPartitionOf}
 use Rattle.pf_graph.specs.Limits.{IsWithinLimits}
 use Rattle.pf_graph.specs.Best.{IsStrength}
 use Rattle.pf_strength.specs.Strength.{StrengthAnswer, IsStrengthShape, CertifiesStrength}
 use Rattle.pf_strength.proofs.Certificate.{certificate_is_strength}
 use Rattle.pf_strength.proofs.Steps.{same_labels}
-use Rattle.pf_strength.proofs.Whole.{answer_of, adds_here, shape_of, certified_of}
+use Rattle.pf_strength.proofs.Whole.{answer_of, adds_here, fits_of, certified_of}
 use Rattle.pf_strength.proofs.strength.Strength.of.Goals as goal
 
 pub find-level-requires-clause-single : goal.find-level-requires-clause-single
@@ -27,7 +26,10 @@ returns-clause-shape c =
     (c.from_vec-vector.ensures ∙ c.in_ok-from_slice.ensures.items ∙ c.vector.ensures.value) in
     let limits = subst IsWithinLimits last.graph c.vector.ensures.graph in
     subst (IsStrengthShape c.args.graph.now) (sym e)
-    (shape_of c.args.graph.now c.find-level.result c.find-level.new.best c.find-level.new.forest c.push_splits.new.table limits last c.q-q.ensures.bounds.q_high adds)
+    (record {
+      level = record { bounds = c.q-q.ensures.bounds; lowest = c.q-q.ensures.lowest };
+      fits = fits_of c.args.graph.now c.find-level.result c.find-level.new.best c.find-level.new.forest c.push_splits.new.table limits last c.q-q.ensures.bounds.q_high adds;
+    })
 
 pub returns-clause-certified : goal.returns-clause-certified
 returns-clause-certified c =
