@@ -1,2 +1,11 @@
 pub mod Certificate
 pub mod Parts
+pub mod BestLines
+pub mod Filled
+pub mod Levels
+pub mod StepLemmas
+pub mod RowLemmas
+pub mod Shapes
+pub mod SameAnswers
+pub mod Printed
+pub mod PartLemmas

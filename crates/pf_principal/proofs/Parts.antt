@@ -8,7 +8,7 @@ use Rattle.pf_graph.specs.WeightedGraph.{WeightedGraph}
 use Rattle.pf_graph.specs.Labels.{parts}
 use Rattle.pf_graph.specs.Best.{crossing_of, level_zero, level_at, partition_at}
 use Rattle.pf_forest.specs.Forest.{MeetsTotal}
-use Rattle.pf_principal.specs.Principal.{PrincipalAnswer, IsPrincipalShape, CertifiesPrincipal, MeetsLevel}
+use Rattle.pf_principal.specs.Principal.{PrincipalAnswer, FitsGraph, CertifiesPrincipal, MeetsLevel}
 use Rattle.pf_principal.specs.Testing.{MeetsBoth, MeetsStep, MeetsSteps, HasEnds}
 
 pub same_both : (g : WeightedGraph) (x x' : Fraction) (v v' : List ℤ) (s s' : List (List ℤ)) (f f' : ℕ) (l l' r r' : List ℕ) → x ≡ x' → v ≡ v' → s ≡ s' → f ≡ f' →
@@ -26,7 +26,7 @@ forest_from g a j i full m sum = record {
   sum = sum;
 }
 
-pub certified_from : (g : WeightedGraph) (a : PrincipalAnswer) (first last : List ℕ) (n : ℕ) → IsPrincipalShape g a → first ≡ partition_at a.partitions 0 →
+pub certified_from : (g : WeightedGraph) (a : PrincipalAnswer) (first last : List ℕ) (n : ℕ) → FitsGraph g a → first ≡ partition_at a.partitions 0 →
     last ≡ partition_at a.partitions (length a.levels) → HasEnds g first last → MeetsSteps g a n → length a.levels ≤ n → CertifiesPrincipal g a
 certified_from g a first last n s e f ends steps all = record {
   rise = λ j low. (steps.each j (omega (arith, low, all))).rise;

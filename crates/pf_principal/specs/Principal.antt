@@ -1,5 +1,6 @@
 -- A principal partition with its certificate.
-use Rattle.std.specs.Prelude.{◌≡◌, ℕ, ◌+◌, ◌*◌, ◌<◌, ◌≤◌, ℤ, pos, List, length}
+use Rattle.std.specs.Prelude.{◌≡◌, ℕ, ◌+◌, ◌*◌, ◌<◌, ◌≤◌, ℤ, pos, List, length, All}
+use Rattle.pf_model.specs.Answer.{IsFractionShape}
 use Rattle.pf_model.specs.Fraction.{Fraction, IsBelow}
 use Rattle.pf_frame.specs.Lending.{row_at}
 use Rattle.pf_frame.specs.Numbers.{IsSized}
@@ -20,14 +21,19 @@ pub record PrincipalAnswer : Type 0 where
 abbrev pub split_at : WeightedGraph → List (List ℤ) → ℕ → ℕ → List ℤ
 split_at g splits j r = row_at splits (j * g.nodes + r)
 
--- its shape: partitions by the label rule, and rows of one number per edge, each of a size below 2 ^ 104
-pub record IsPrincipalShape (g : WeightedGraph) (a : PrincipalAnswer) : Type 0 where
+-- its lists fit the graph: partitions by the label rule, and rows of one number per edge, each of a size below 2 ^ 104
+pub record FitsGraph (g : WeightedGraph) (a : PrincipalAnswer) : Type 0 where
   pub count : length a.partitions ≡ length a.levels + 1
   pub partition : (j : ℕ) → j ≤ length a.levels → IsPartition g.nodes (partition_at a.partitions j)
   pub vector_rows : length a.vectors ≡ length a.levels
   pub vectors : (j : ℕ) → j < length a.levels → IsSized (digraph_of g) (row_at a.vectors j)
   pub split_rows : length a.splits ≡ length a.levels * g.nodes
   pub splits : (k : ℕ) → k < length a.splits → IsSized (digraph_of g) (row_at a.splits k)
+
+-- its shape: levels in lowest terms within their widths, and lists that fit the graph
+pub record IsPrincipalShape (g : WeightedGraph) (a : PrincipalAnswer) : Type 0 where
+  pub levels : All IsFractionShape a.levels
+  pub fits : FitsGraph g a
 
 -- the forest condition at level j + 1, with partition i
 abbrev pub MeetsLevel : WeightedGraph → PrincipalAnswer → ℕ → ℕ → Type 0

@@ -1,19 +1,23 @@
 // The test of a principal partition.
-ghost use Rattle.std.specs.Prelude.{◌≡◌, ℕ, ◌+◌, ◌*◌, ◌<◌, ◌≤◌, ◌↔◌, IsTrue, length};
+ghost use Rattle.std.specs.Prelude.{◌≡◌, ℕ, ◌+◌, ◌*◌, ◌<◌, ◌≤◌, ◌↔◌, IsTrue, IfOk, true, length};
 ghost use Rattle.std.specs.Bool.{OnTrue};
 ghost use Rattle.pf_model.specs.Fraction.{IsBelow};
 ghost use Rattle.pf_frame.specs.Lending.{row_at};
 ghost use Rattle.pf_frame.specs.Scratch.{Serves, KeepsPlaces};
 ghost use Rattle.pf_graph.specs.Labels.{parts};
 ghost use Rattle.pf_graph.specs.Best.{IsPrincipal, level_at, partition_at};
-ghost use Rattle.pf_principal.specs.Principal.{IsPrincipalShape, CertifiesPrincipal};
+ghost use Rattle.pf_principal.specs.Principal.{FitsGraph, CertifiesPrincipal};
+ghost use Rattle.pf_principal.specs.Right.{IsCertifiedPrincipal};
 ghost use Rattle.pf_principal.specs.Testing.{MeetsBoth, MeetsStep, MeetsSteps, HasEnds};
 
 use crate::Principal;
+use crate::text::read_principal;
 use pf_forest::{are_splits, has_total, is_in_range};
-use pf_frame::{FlowTable, Scratch};
+use pf_frame::{FlowTable, NoMemory, Scratch};
 use pf_graph::{Graph, Partition};
+use pf_lines::AnswerBad;
 use pf_rat::Rat;
+use std::alloc::Global;
 use std::cmp::Ordering;
 
 // Whether the first level is below the second.
@@ -85,7 +89,7 @@ fn has_fewer(left: &Partition, right: &Partition) -> bool
 
 // Whether all that is asked of level `j + 1` and its neighbours holds.
 fn meets_step(graph: &Graph, answer: &Principal, j: usize, scratch: &mut Scratch) -> bool
-    requires shape { IsPrincipalShape graph.now answer.now }
+    requires shape { FitsGraph graph.now answer.now }
     requires level { j < length answer.now.levels }
     requires room { Serves scratch.old graph.now.nodes (length graph.now.ends) }
     ensures exact { IsTrue result ↔ MeetsStep graph.now answer.now j }
@@ -127,7 +131,7 @@ fn has_ends(graph: &Graph, first: &Partition, last: &Partition) -> bool
 /// partitions. Then it is the principal partition of the graph. Any numbers may stand in the answer. It takes no memory; the
 /// scratch is working room, and keeps its places.
 pub fn check_principal(graph: &Graph, answer: &Principal, scratch: &mut Scratch) -> bool
-    requires shape { IsPrincipalShape graph.now answer.now }
+    requires shape { FitsGraph graph.now answer.now }
     requires room { Serves scratch.old graph.now.nodes (length graph.now.ends) }
     ensures exact { IsTrue result ↔ CertifiesPrincipal graph.now answer.now }
     ensures principal { OnTrue result (IsPrincipal graph.now answer.now.levels answer.now.partitions) }
@@ -146,4 +150,34 @@ pub fn check_principal(graph: &Graph, answer: &Principal, scratch: &mut Scratch)
         }
     }
     true
+}
+
+// Whether the answer certifies itself, as `check_principal` tests it. The working room is taken and given back here.
+fn is_certified(alloc: Global, graph: &Graph, answer: &Principal) -> Result<bool, NoMemory>
+    requires { FitsGraph graph.now answer.now }
+    ensures { IfOk result (λ holds. (holds ≡ true) ↔ CertifiesPrincipal graph.now answer.now) }
+{
+    let vertices = graph.vertices() as usize;
+    let edges = graph.edges() as usize;
+    let mut scratch = Scratch::make(alloc, vertices, edges)?;
+    Ok(check_principal(graph, answer, &mut scratch))
+}
+
+/// Whether the text is that of an answer of the right shape for the graph whose certificate holds. `NoMemory` where memory was
+/// not found.
+pub fn is_certified_partition_text(
+    alloc: Global,
+    graph: &Graph,
+    text: &[u8],
+) -> Result<bool, NoMemory>
+    ensures { IfOk result (λ holds. (holds ≡ true) ↔ IsCertifiedPrincipal graph.now text.now) }
+{
+    // It gives the proof what every graph keeps.
+    let _ = graph.vertices();
+    let answer = match read_principal(alloc, graph, text) {
+        Ok(answer) => answer,
+        Err(AnswerBad::NotText) => return Ok(false),
+        Err(AnswerBad::NoMemory) => return Err(NoMemory),
+    };
+    is_certified(alloc, graph, &answer)
 }

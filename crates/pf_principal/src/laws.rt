@@ -1,6 +1,6 @@
 //! Laws of the principal partition.
 
-ghost use Rattle.pf_principal.specs.PrincipalLaws.{CertificateIsPrincipal, CertifiedIsUnique};
+ghost use Rattle.pf_principal.specs.PrincipalLaws.{CertificateIsPrincipal, CertifiedIsUnique, PrincipalFromText, CertifiedIsRight};
 
 /// The certificate proves that the partitions are the principal partition of the graph: each is best throughout its piece of
 /// the levels, and strictly inside it is the only best one.
@@ -11,4 +11,11 @@ pub fn certificate_is_principal()
 /// The levels and the partitions of two certified answers are the same, where the levels are in lowest terms.
 pub fn certified_is_unique()
     ensures { CertifiedIsUnique }
+{}
+
+/// The text of an answer of the right shape is the text of no other one, so the verdict on a text is `yes` for exactly the
+/// texts of right answers.
+pub fn texts_determine_answers()
+    ensures principal { PrincipalFromText }
+    ensures certified { CertifiedIsRight }
 {}

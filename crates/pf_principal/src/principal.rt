@@ -1,9 +1,17 @@
 // The principal partition, with its certificate.
-ghost use Rattle.std.specs.Prelude.{◌≡◌};
+ghost use Rattle.std.specs.Prelude.{◌≡◌, ◌≤◌, IfOk};
+ghost use Rattle.pf_graph.specs.Best.{IsPrincipal};
+ghost use Rattle.pf_principal.specs.Principal.{IsPrincipalShape, CertifiesPrincipal};
 
+use crate::family::Bests;
+use crate::search::{fill_tables, levels_of, partitions_of, top_level};
 use pf_curve::Points;
-use pf_frame::FlowTable;
-use pf_graph::Partitions;
+use pf_envelope::envelope;
+use pf_forest::Forest;
+use pf_frame::{FlowTable, NoMemory};
+use pf_graph::{Graph, Partitions};
+use pf_rat::Rat;
+use std::alloc::Global;
 use std::marker::Model;
 
 /// Levels, one partition more, a vector for each level, and for each level a split for each vertex as a root. Vectors are
@@ -41,6 +49,36 @@ impl Principal {
             vectors,
             splits,
         }
+    }
+
+    /// The principal partition of a graph: all levels at which the best partitions change, the partition that is best between
+    /// each level and the next, and the certificate (Narayanan 1991; found as the lower envelope of the lines of all partitions,
+    /// with forests that tell a best partition at a level). `NoMemory` where memory was not found.
+    pub fn of(alloc: Global, graph: &Graph) -> Result<Principal, NoMemory>
+        requires { 2 ≤ graph.now.nodes }
+        ensures shape { IfOk result (λ answer. IsPrincipalShape graph.now answer) }
+        ensures certified { IfOk result (λ answer. CertifiesPrincipal graph.now answer) }
+        ensures principal { IfOk result (λ answer. IsPrincipal graph.now answer.levels answer.partitions) }
+    {
+        // It tells the limits.
+        let _ = graph.frame();
+        let forest = Forest::make(alloc, graph)?;
+        let low = Rat::new(0, 1);
+        let high = top_level(graph, forest.partition());
+        let mut family = Bests { forest };
+        let parts = envelope(alloc, &mut family, &low, &high)?;
+        let levels = levels_of(alloc, parts.as_slice())?;
+        let partitions = partitions_of(alloc, parts)?;
+        let mut vectors = FlowTable::new(alloc);
+        let mut splits = FlowTable::new(alloc);
+        fill_tables(
+            alloc,
+            &mut family.forest,
+            levels.get(),
+            &mut vectors,
+            &mut splits,
+        )?;
+        Ok(Principal::new(levels, partitions, vectors, splits))
     }
 
     /// The levels, rising.
