@@ -1,16 +1,15 @@
 -- A curve of the network, read as a schedule, is certified.
-use Rattle.std.proofs.Common.{◌≡◌, ◌≢◌, ℕ, zero, suc, ◌+◌, ◌-◌, ◌^◌, ◌<◌, ◌≤◌, List, [], ◌∷◌, length, get_or, refl, Bool, true, false, cond, not, arith, ap, sym, ◌∙◌, inl, inr, subst, add-one}
-use Rattle.std.specs.Prelude.{ℤ, ◌+ℤ◌, ◌-ℤ◌, ◌*ℤ◌, ◌≤ℤ◌, ◌<ℤ◌, pos, ◌⊎◌, ◌==◌, All}
+use Rattle.std.proofs.Common.{◌≡◌, ◌≢◌, ℕ, zero, suc, ◌-◌, ◌<◌, List, [], ◌∷◌, length, get_or, refl, Bool, true, false, not, arith, ap, sym, ◌∙◌, inl, inr, add-one}
+use Rattle.std.specs.Prelude.{ℤ, ◌+ℤ◌, ◌-ℤ◌, ◌*ℤ◌, ◌≤ℤ◌, ◌<ℤ◌, pos, ◌⊎◌, ◌==◌}
 use Rattle.std.proofs.lemmas.Int.{ints, by_lt_z}
 use Rattle.std.proofs.lemmas.Bool.{cases_Bool, cases_lt, cases_eq, both_ways}
 use Rattle.std.proofs.lemmas.Bool.Decides.{nat_tests}
-use Rattle.std.proofs.lemmas.List.Elements.{All-get_or}
-use Rattle.pf_model.specs.Fraction.{Fraction, IsParameter, IsBelow, IsAtMost, IsEqual}
-use Rattle.pf_model.specs.Answer.{Curve, IsFractionShape, IsWithinSize, IsFlowShape, IsCurveShape}
-use Rattle.pf_model.specs.Cut.{has, at_arc, IsCut, IsLeast, IsContained, capacity, sum_where}
+use Rattle.pf_model.specs.Fraction.{Fraction, IsParameter, IsBelow}
+use Rattle.pf_model.specs.Answer.{Curve}
+use Rattle.pf_model.specs.Cut.{has, at_arc, IsCut, IsContained, capacity}
 use Rattle.pf_model.specs.Flow.{IsFlow, value}
 use Rattle.pf_model.specs.Residual.{IsReach}
-use Rattle.pf_model.specs.Network.{IsNetworkCut, IsMonotone, network_at}
+use Rattle.pf_model.specs.Network.{IsNetworkCut, network_at}
 use Rattle.pf_model.specs.Curve.{IsCurve, CertifiesCurve, point_at, cut_at, flow_at}
 use Rattle.pf_model.proofs.Integers.{mul_most, mul_nonneg, mul_comm, add_mul}
 use Rattle.pf_model.proofs.Balance.{inside}
@@ -18,14 +17,13 @@ use Rattle.pf_model.proofs.Affine.{proper_at}
 use Rattle.pf_model.proofs.Duality.{reach_is_tight}
 use Rattle.pf_model.proofs.Unique.{same_sides}
 use Rattle.pf_model.proofs.Certificate.{at_most_reflexive, point_is_parameter, point_inside}
-use Rattle.pf_select.specs.Problem.{SelectionProblem, IsSelectionProblem, IsBoundedProblem, is_gained, sum_of, cost_of, gain_of, worth, product_at, part_at, zero_price, price_at, selection_at, IsProperPart}
-use Rattle.pf_select.specs.Certificate.{ScheduleAnswer, charged_on, CertifiesPrice, IsNeeded, charges_at, CertifiesSchedule}
-use Rattle.pf_select.specs.Right.{IsChargesShape, IsScheduleShape}
+use Rattle.pf_select.specs.Problem.{SelectionProblem, IsSelectionProblem, IsBoundedProblem, sum_of, cost_of, gain_of, worth, product_at, part_at, zero_price, price_at, selection_at, IsProperPart}
+use Rattle.pf_select.specs.Certificate.{ScheduleAnswer, CertifiesPrice, IsNeeded, CertifiesSchedule}
 use Rattle.pf_select.specs.Reduction.{product_node, sink_node, whole_gain, select_net, selection_of, charges_of}
-use Rattle.pf_select.specs.Carried.{ArePrices, AreSelections, AreCarried, IsCarriedBack}
+use Rattle.pf_select.specs.Carried.{IsCarriedBack}
 use Rattle.pf_select.proofs.Grouping.{sum_none, sum_same}
 use Rattle.pf_select.proofs.Worths.{not_true, not_false, lost}
-use Rattle.pf_select.proofs.Soundness.{sum_low, sum_some, gain_most}
+use Rattle.pf_select.proofs.Soundness.{sum_some, gain_most}
 use Rattle.pf_select.proofs.NetBuilt.{net_built}
 use Rattle.pf_select.proofs.NetFlows.{none_at}
 use Rattle.pf_select.proofs.NetSides.{IsShut, shut_from_tight, side_with, side_part, side_product, side_sink, side_full, cheap_reached, price_certified}

@@ -13,3 +13,13 @@ pub mod NetFlows
 pub mod NetSides
 pub mod NetCuts
 pub mod CarriedBack
+pub mod ArcLemmas
+pub mod Solved
+pub mod GatheringLemmas
+pub mod TextLaw
+pub mod WorthSizes
+pub mod ChangeTexts
+pub mod OutlineLemmas
+pub mod ChargeLines
+pub mod TextLemmas
+pub mod SameAnswers

@@ -1,16 +1,15 @@
 -- The arcs of the network: how many there are, where each stands, and sums over them.
-use Rattle.std.proofs.Common.{◌≡◌, ◌≢◌, ℕ, zero, suc, ◌+◌, ◌-◌, ◌*◌, ◌^◌, ◌<◌, ◌≤◌, List, [], ◌∷◌, ◌++◌, length, get_or, take, drop, map, refl, Bool, true, false, cond, not, eqb, arith, ap, sym, ◌∙◌, inl, inr, zero-add}
-use Rattle.std.specs.Prelude.{ℤ, ◌+ℤ◌, ◌-ℤ◌, ◌*ℤ◌, ◌≤ℤ◌, pos, ◌⊎◌, ◌==◌}
+use Rattle.std.proofs.Common.{◌≡◌, ℕ, zero, suc, ◌+◌, ◌-◌, ◌<◌, List, [], ◌∷◌, ◌++◌, length, get_or, take, drop, map, refl, Bool, cond, arith, ap, sym, ◌∙◌, inl, inr, zero-add}
+use Rattle.std.specs.Prelude.{ℤ, ◌+ℤ◌, pos}
 use Rattle.std.proofs.lemmas.Int.{ints}
 use Rattle.std.proofs.lemmas.Bool.{cases_lt}
 use Rattle.std.proofs.lemmas.List.{length-map, length-append, length-take-le, length-drop, get_or-map, get_or_append_left, get_or-append-add, get_or-take, get_or-drop}
 use Rattle.pf_model.specs.declared.AffineArc.{AffineArc}
 use Rattle.pf_model.specs.Fraction.{Fraction}
-use Rattle.pf_model.specs.Cut.{FlowNetwork, has, at_arc, tail_at, head_at, sum_where}
-use Rattle.pf_model.specs.Network.{Network, ends_of, capacity_at, network_at}
-use Rattle.pf_model.proofs.Integers.{mul_add, mul_comm}
+use Rattle.pf_model.specs.Cut.{at_arc, sum_where}
+use Rattle.pf_model.specs.Network.{ends_of, capacity_at}
 use Rattle.pf_model.proofs.Affine.{no_arc}
-use Rattle.pf_select.specs.Problem.{SelectionProblem, sum_of, product_at, part_at}
+use Rattle.pf_select.specs.Problem.{SelectionProblem, sum_of}
 use Rattle.pf_select.specs.Reduction.{part_arc, need_arc, product_arc, part_arcs, product_arcs, product_node, sink_node, select_net, charges_of}
 use Rattle.pf_select.proofs.Grouping.{sum_same}
 

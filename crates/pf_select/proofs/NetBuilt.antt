@@ -1,19 +1,18 @@
 -- The network of a bounded problem is monotone and within its limits.
-use Rattle.std.proofs.Common.{◌≡◌, ℕ, zero, suc, ◌+◌, ◌*◌, ◌^◌, ◌<◌, ◌≤◌, List, [], ◌∷◌, ◌++◌, length, get_or, map, refl, Bool, true, false, cond, arith, ap, sym, ◌∙◌, subst, add-one}
+use Rattle.std.proofs.Common.{◌≡◌, ℕ, suc, ◌+◌, ◌*◌, ◌^◌, ◌<◌, List, [], ◌∷◌, length, get_or, refl, true, false, arith, sym, subst}
 use Rattle.std.specs.Prelude.{ℤ, ◌+ℤ◌, ◌*ℤ◌, ◌≤ℤ◌, pos, int_le, ◌==◌, All}
 use Rattle.std.proofs.lemmas.Int.{ints}
 use Rattle.std.proofs.lemmas.Bool.Decides.{nat_tests}
 use Rattle.std.proofs.lemmas.List.{get_or_default}
 use Rattle.pf_model.specs.declared.AffineArc.{AffineArc}
 use Rattle.pf_model.specs.declared.Sense.TheVariants.{Rising}
-use Rattle.pf_model.specs.Fraction.{Fraction}
 use Rattle.pf_model.specs.Cut.{at_arc}
-use Rattle.pf_model.specs.Network.{IsMonotone, IsMonotoneArc, keeps_slope}
+use Rattle.pf_model.specs.Network.{IsMonotoneArc, keeps_slope}
 use Rattle.pf_model.proofs.Affine.{no_arc}
 use Rattle.pf_model.proofs.Integers.{mul_nonneg}
-use Rattle.pf_net.specs.Limits.{IsSmallArc, IsWithinLimits, IsBuilt, rising}
-use Rattle.pf_select.specs.Problem.{SelectionProblem, IsBoundedProblem, sum_of, product_at, part_at}
-use Rattle.pf_select.specs.Reduction.{part_arc, need_arc, product_arc, part_arcs, product_arcs, sink_node, whole_gain, select_net}
+use Rattle.pf_net.specs.Limits.{IsSmallArc, IsBuilt}
+use Rattle.pf_select.specs.Problem.{SelectionProblem, IsBoundedProblem, sum_of}
+use Rattle.pf_select.specs.Reduction.{part_arc, need_arc, product_arc, sink_node, whole_gain, select_net}
 use Rattle.pf_select.proofs.Soundness.{sum_low}
 use Rattle.pf_select.proofs.NetArcs.{arcs_full, arc_of, arc_part, arc_need, arc_product, each_arc}
 

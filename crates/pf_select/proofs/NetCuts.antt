@@ -1,20 +1,20 @@
 -- Cuts of the network: which products are in them, and their capacities.
-use Rattle.std.proofs.Common.{◌≡◌, ◌≢◌, ℕ, zero, suc, ◌+◌, ◌^◌, ◌<◌, ◌≤◌, List, [], ◌∷◌, ◌++◌, length, get_or, take, drop, map, refl, Bool, true, false, cond, not, ◌&&◌, arith, ap, sym, ◌∙◌, inl, inr, zero-add}
-use Rattle.std.specs.Prelude.{ℤ, ◌+ℤ◌, ◌-ℤ◌, ◌*ℤ◌, ◌≤ℤ◌, ◌<ℤ◌, pos}
+use Rattle.std.proofs.Common.{◌≡◌, ℕ, suc, ◌+◌, ◌<◌, List, [], ◌∷◌, ◌++◌, length, get_or, take, drop, map, refl, Bool, true, false, cond, not, ◌&&◌, arith, ap, sym, ◌∙◌, inl, inr, zero-add}
+use Rattle.std.specs.Prelude.{ℤ, ◌+ℤ◌, ◌-ℤ◌, ◌*ℤ◌, pos}
 use Rattle.std.proofs.lemmas.Int.{ints}
 use Rattle.std.proofs.lemmas.Bool.{cases_Bool, both_ways}
 use Rattle.std.proofs.lemmas.List.{length-map, length-take-le, length-drop, get_or-map, get_or-take, get_or-drop}
 use Rattle.pf_model.specs.declared.AffineArc.{AffineArc}
 use Rattle.pf_model.specs.Fraction.{Fraction, IsParameter}
-use Rattle.pf_model.specs.Cut.{has, at_arc, leaves, sum_where, capacity, IsCut}
+use Rattle.pf_model.specs.Cut.{has, leaves, sum_where, capacity}
 use Rattle.pf_model.specs.Flow.{IsFlow}
 use Rattle.pf_model.specs.Residual.{IsReach}
 use Rattle.pf_model.specs.Network.{IsNetworkCut, ends_of, capacity_at, network_at}
 use Rattle.pf_model.proofs.Integers.{mul_add, mul_comm}
-use Rattle.pf_select.specs.Problem.{SelectionProblem, IsSelectionProblem, IsBoundedProblem, is_gained, sum_of, gain_of, cost_of, worth, product_at, part_at}
-use Rattle.pf_select.specs.Reduction.{part_arc, need_arc, product_arc, part_arcs, product_arcs, product_node, sink_node, whole_gain, select_net, selection_of}
+use Rattle.pf_select.specs.Problem.{SelectionProblem, IsBoundedProblem, is_gained, sum_of, gain_of, cost_of, worth, product_at, part_at}
+use Rattle.pf_select.specs.Reduction.{need_arc, part_arcs, product_arcs, product_node, sink_node, whole_gain, select_net, selection_of}
 use Rattle.pf_select.proofs.Grouping.{sum_same}
-use Rattle.pf_select.proofs.Worths.{not_true, not_false, gained_holds, missing, gained_all, lost, gains_split}
+use Rattle.pf_select.proofs.Worths.{not_true, not_false, gained_holds, missing, lost, gains_split}
 use Rattle.pf_select.proofs.NetSides.{IsShut, side_with, side_part, side_product, side_sink, reach_inside, needs_stay}
 
 -- the parts outside a side

@@ -1,5 +1,5 @@
 -- A flow in the network: what a part is charged comes from the source, and what a product charges goes to the sink.
-use Rattle.std.proofs.Common.{◌≡◌, ◌≢◌, ℕ, zero, suc, ◌+◌, ◌^◌, ◌<◌, ◌≤◌, List, [], ◌∷◌, length, get_or, map, refl, Bool, true, false, cond, eqb, arith, ap, sym, ◌∙◌}
+use Rattle.std.proofs.Common.{◌≡◌, ◌≢◌, ℕ, zero, suc, ◌+◌, ◌^◌, ◌<◌, List, [], ◌∷◌, length, get_or, map, refl, Bool, true, false, cond, eqb, arith, ap, sym, ◌∙◌}
 use Rattle.std.specs.Prelude.{ℤ, ◌+ℤ◌, ◌*ℤ◌, ◌≤ℤ◌, ◌<ℤ◌, pos, ◌==◌}
 use Rattle.std.proofs.lemmas.Int.{ints}
 use Rattle.std.proofs.lemmas.Bool.Decides.{nat_tests}
@@ -10,11 +10,11 @@ use Rattle.pf_model.specs.Flow.{IsFlow, sum_out, sum_in}
 use Rattle.pf_model.specs.Network.{ends_of, capacity_at, network_at}
 use Rattle.pf_model.proofs.Integers.{mul_comm, mul_most}
 use Rattle.pf_model.proofs.Sums.{sum_where_none, sum_where_same}
-use Rattle.pf_select.specs.Problem.{SelectionProblem, IsSelectionProblem, IsBoundedProblem, sum_of, product_at, part_at}
+use Rattle.pf_select.specs.Problem.{SelectionProblem, IsSelectionProblem, IsBoundedProblem, product_at}
 use Rattle.pf_select.specs.Certificate.{charged_by, charged_on, AreCharges}
 use Rattle.pf_select.specs.Reduction.{product_node, sink_node, select_net, charges_of}
 use Rattle.pf_select.proofs.Grouping.{same_at, sum_none, sum_one}
-use Rattle.pf_select.proofs.NetArcs.{arcs_full, arc_of, arc_part, arc_need, arc_product, capacity_is, sum_over, on_parts, on_products, at_parts, at_charges, at_products, length_parts, length_charges, length_products}
+use Rattle.pf_select.proofs.NetArcs.{arcs_full, arc_part, arc_need, arc_product, capacity_is, sum_over, on_parts, on_products, at_parts, at_charges, at_products, length_parts, length_charges, length_products}
 
 -- tests of nodes
 apart_zero : (i : ℕ) → eqb 0 (suc i) ≡ false

@@ -1,23 +1,21 @@
 -- Sides of the network: those that no residual arc leaves, and what the source reaches.
-use Rattle.std.proofs.Common.{◌≡◌, ◌≢◌, ℕ, zero, suc, ◌+◌, ◌^◌, ◌<◌, ◌≤◌, List, [], ◌∷◌, ◌++◌, length, get_or, map, refl, Bool, true, false, not, ◌&&◌, arith, ap, sym, ◌∙◌, inl, inr, subst, zero-add}
+use Rattle.std.proofs.Common.{◌≡◌, ℕ, suc, ◌+◌, ◌^◌, ◌<◌, List, [], ◌∷◌, ◌++◌, length, get_or, map, refl, Bool, true, false, not, ◌&&◌, arith, ap, sym, ◌∙◌, inl, inr}
 use Rattle.std.specs.Prelude.{ℤ, ◌*ℤ◌, ◌≤ℤ◌, ◌<ℤ◌, pos}
 use Rattle.std.proofs.lemmas.Int.{ints, by_lt_z}
-use Rattle.std.proofs.lemmas.Bool.{cases_Bool, cases_lt, both_ways, false≢true}
+use Rattle.std.proofs.lemmas.Bool.{cases_Bool, both_ways}
 use Rattle.std.proofs.lemmas.List.{length-map, length-append, get_or_append_left, get_or-append-add}
 use Rattle.pf_model.specs.Fraction.{Fraction, IsParameter}
 use Rattle.pf_model.specs.Cut.{has, at_arc, leaves, enters}
 use Rattle.pf_model.specs.Flow.{IsFlow}
 use Rattle.pf_model.specs.Residual.{IsReach}
-use Rattle.pf_model.specs.Network.{IsNetworkCut, IsMonotone, IsInInterval, ends_of, capacity_at, network_at}
+use Rattle.pf_model.specs.Network.{IsNetworkCut, ends_of, capacity_at, network_at}
 use Rattle.pf_model.proofs.Balance.{inside}
-use Rattle.pf_model.proofs.Sums.{Passes}
-use Rattle.pf_model.proofs.Affine.{proper_at}
-use Rattle.pf_model.proofs.Duality.{IsTight, leaves_parts, enters_parts, stays, reach_is_tight}
-use Rattle.pf_select.specs.Problem.{SelectionProblem, IsBoundedProblem, is_gained, product_at, part_at}
-use Rattle.pf_select.specs.Certificate.{charged_by, charged_on, KeepsRules, IsDropped, CertifiesPrice}
-use Rattle.pf_select.specs.Reduction.{part_arc, need_arc, product_arc, product_node, sink_node, select_net, charges_of}
+use Rattle.pf_model.proofs.Duality.{IsTight, leaves_parts, enters_parts, stays}
+use Rattle.pf_select.specs.Problem.{SelectionProblem, IsBoundedProblem, product_at, part_at}
+use Rattle.pf_select.specs.Certificate.{charged_on, KeepsRules, IsDropped, CertifiesPrice}
+use Rattle.pf_select.specs.Reduction.{product_node, sink_node, select_net, charges_of}
 use Rattle.pf_select.proofs.Grouping.{listed, has_listed, length_listed}
-use Rattle.pf_select.proofs.NetArcs.{arcs_full, arc_of, arc_part, arc_need, arc_product, each_arc, end_is, at_charges}
+use Rattle.pf_select.proofs.NetArcs.{arcs_full, arc_part, arc_need, arc_product, each_arc, end_is, at_charges}
 use Rattle.pf_select.proofs.NetFlows.{part_capacity_is, need_capacity_is, product_capacity_is, part_balance, product_balance, charges_are, need_open}
 
 -- the arcs that leave the side are full, those that enter it are empty, arc by arc

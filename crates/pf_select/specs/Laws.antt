@@ -1,8 +1,11 @@
 -- What holds of product selections and of what certifies them.
-use Rattle.std.specs.Prelude.{◌≡◌, ℕ, suc, ◌<◌, ◌≤◌, ℤ, Bool, List, length}
+use Rattle.std.specs.Prelude.{◌≡◌, ◌↔◌, ℕ, suc, ◌<◌, ◌≤◌, ℤ, Bool, List, length, Ok}
 use Rattle.pf_model.specs.Fraction.{Fraction, IsEqual, IsLowest}
-use Rattle.pf_select.specs.Problem.{SelectionProblem, IsSelectionProblem, IsBestSchedule, price_at}
-use Rattle.pf_select.specs.Certificate.{CertifiesSchedule}
+use Rattle.pf_text.specs.Kinds.{Accepted, problem_of}
+use Rattle.pf_select.specs.Problem.{SelectionProblem, IsSelectionProblem, IsBoundedProblem, IsBestSchedule, price_at}
+use Rattle.pf_select.specs.Certificate.{ScheduleAnswer, CertifiesSchedule}
+use Rattle.pf_select.specs.Text.{select, schedule_text}
+use Rattle.pf_select.specs.Right.{IsScheduleShape, IsRightSchedule, IsCertifiedSchedule}
 
 -- the certificate proves the schedule best
 abbrev pub CertificateImpliesBest : Type 0
@@ -27,3 +30,16 @@ pub record AreLowest (prices : List Fraction) : Type 0 where
 abbrev pub OneBestScheduleInLowestTerms : Type 0
 OneBestScheduleInLowestTerms = (p : SelectionProblem) (prices prices' : List Fraction) (selections selections' : List (List Bool)) →
     IsBestSchedule p prices selections → IsBestSchedule p prices' selections' → AreLowest prices → AreLowest prices' → prices ≡ prices'
+
+-- a text that is accepted gives a problem within its limits
+abbrev pub AcceptedIsBounded : Type 0
+AcceptedIsBounded = (text : List ℕ) (read : Accepted SelectionProblem) → problem_of select text ≡ Ok read → IsBoundedProblem read.problem
+
+-- answers of the right shape with equal texts are equal
+abbrev pub ScheduleFromText : Type 0
+ScheduleFromText = (p : SelectionProblem) (a b : ScheduleAnswer) → IsBoundedProblem p → IsScheduleShape p a → IsScheduleShape p b →
+    schedule_text p a ≡ schedule_text p b → a ≡ b
+
+-- the verdict is `yes` for exactly the texts of right answers
+abbrev pub CertifiedIsRight : Type 0
+CertifiedIsRight = (p : SelectionProblem) (text : List ℕ) → IsBoundedProblem p → IsCertifiedSchedule p text ↔ IsRightSchedule p text

@@ -1,6 +1,10 @@
 pub mod Problem
 pub mod Certificate
+pub mod Text
 pub mod Right
+pub mod Refused
+pub mod Gathered
+pub mod Outline
 pub mod Reduction
 pub mod Carried
 pub mod Dropping

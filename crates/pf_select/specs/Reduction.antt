@@ -1,6 +1,6 @@
 -- The parametric network of a selection problem. Node 0 is the source; a node for each part and one for each product follow; the last
 -- node is the sink. A cut holds the parts that are not selected, and the products that are not gained.
-use Rattle.std.specs.Prelude.{◌≡◌, ℕ, suc, ◌+◌, ◌<◌, ◌^◌, ℤ, ◌+ℤ◌, pos, Bool, true, not, List, [], ◌∷◌, ◌++◌, length, map, take, drop}
+use Rattle.std.specs.Prelude.{ℕ, suc, ◌+◌, ◌^◌, ℤ, ◌+ℤ◌, pos, Bool, true, not, List, [], ◌∷◌, ◌++◌, length, map, take, drop}
 use Rattle.pf_model.specs.declared.AffineArc.{AffineArc}
 use Rattle.pf_model.specs.declared.Sense.TheVariants.{Rising}
 use Rattle.pf_model.specs.Network.{Network}

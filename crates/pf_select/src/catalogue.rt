@@ -44,6 +44,18 @@ impl Catalogue {
         })
     }
 
+    /// The catalogue of these costs, gains and needs, all within the limits. It takes no memory.
+    pub(crate) fn from_vecs(costs: Vec<u32>, gains: Vec<u32>, needs: Vec<(u32, u32)>) -> Catalogue
+        requires { IsBoundedProblem (record { costs = map pos costs.items; gains = map pos gains.items; needs = needs.items }) }
+        ensures { result ≡ record { costs = map pos costs.items; gains = map pos gains.items; needs = needs.items } }
+    {
+        Catalogue {
+            costs,
+            gains,
+            needs,
+        }
+    }
+
     /// The number of parts.
     pub fn parts(&self) -> u32
         ensures value { result ≡ length self.now.costs }

@@ -71,3 +71,14 @@ pub fn worth(catalogue: &Catalogue, price: &Rat, set: &[bool], products: &mut [b
     let cost = sum_marked(catalogue.costs(), set);
     scaled(price.q(), gain) - scaled(price.p(), cost)
 }
+
+/// What the selection is worth at the price, in units of `1/q` of it. It takes no memory.
+pub fn worth_at(catalogue: &Catalogue, price: &Rat, set: &[bool]) -> i128
+    requires { length set.now ≡ length catalogue.now.costs }
+    ensures { result ≡ worth catalogue.now price.now set.now }
+{
+    // It tells the limits of the catalogue.
+    let _ = catalogue.parts();
+    let mut products = [false; 5000];
+    worth(catalogue, price, set, &mut products)
+}

@@ -1,0 +1,20 @@
+use Rattle.std.proofs.Common.{◌+◌, length, ap, sym, subst, ◌∙◌}
+use Rattle.pf_net.specs.Limits.{IsBuilt}
+use Rattle.pf_select.proofs.ArcLemmas.{same_net}
+use Rattle.pf_select.proofs.NetBuilt.{net_built}
+use Rattle.pf_select.proofs.Slacks.{small_numbers}
+use Rattle.pf_select.proofs.network.select_net.Goals as goal
+
+pub whole_gain-requires-clause-small : goal.whole_gain-requires-clause-small
+whole_gain-requires-clause-small c =
+    small_numbers c.args.catalogue.now.gains c.gains-gains.result.now c.gains-gains.ensures c.parts-parts.ensures.limits.gain_high
+
+pub from_arcs-requires : goal.from_arcs-requires
+from_arcs-requires c =
+    let p = c.args.catalogue.now in
+    let n = c.parts-parts.ensures.value in
+    let count = ap (λ k. k + c.products.result + 1) n ∙ ap (λ k. length p.costs + k + 1) c.products.ensures in
+    let same = same_net p _ c.parts-parts.result c.whole_gain.result c.costs.result.now c.gains-gains.result.now c.whole-low.result c.whole-high.result
+    c.push_parts.new.arcs.items c.push_needs.new.arcs.items c.push_products.new.arcs.items n count c.costs.ensures c.gains-gains.ensures
+    c.whole-low.ensures c.whole-high.ensures c.whole_gain.ensures.sum c.in_ok-push_parts.ensures c.in_ok-push_needs.ensures c.in_ok-push_products.ensures in
+    subst IsBuilt (sym same) (net_built p c.parts-parts.ensures.limits)

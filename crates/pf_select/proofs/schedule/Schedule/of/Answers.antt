@@ -1,0 +1,46 @@
+use Rattle.std.proofs.Common.{◌≡◌, suc, ◌-◌, length, arith, ap}
+use Rattle.pf_select.proofs.Solved.{flows_wide, solved}
+use Rattle.pf_select.proofs.TextLemmas.{answer_of}
+use Rattle.pf_select.proofs.schedule.Schedule.of.Goals as goal
+
+pub carried-requires-clause-wide : goal.carried-requires-clause-wide
+carried-requires-clause-wide c = flows_wide c.args.catalogue.now c.in_ok-net.net c.in_ok-curve.curve c.in_ok-net.ensures c.in_ok-curve.ensures.shape
+
+pub returns-clause-best : goal.returns-clause-best
+returns-clause-best c =
+    let p = c.args.catalogue.now in
+    let curve = c.in_ok-curve.curve in
+    let some = c.in_ok-curve.ensures.shape.some in
+    let points = c.points.ensures.count in
+    let full = ap length c.points.ensures.points in
+    let many : suc (length c.points.result.now - 2) ≡ length curve.cuts = omega (arith, some, points, full) in
+    let s = solved p c.in_ok-net.net curve (answer_of c.in_ok-prices.prices c.in_ok-sets.sets c.in_ok-charges.charges) (length c.points.result.now - 2) c.parts.ensures.limits
+    c.in_ok-net.ensures c.in_ok-curve.ensures.curve c.in_ok-curve.ensures.certificate c.in_ok-curve.ensures.shape many c.in_ok-prices.ensures c.in_ok-sets.ensures
+    c.in_ok-charges.ensures in
+    rw c.new.ensures s.best
+
+pub returns-clause-certificate : goal.returns-clause-certificate
+returns-clause-certificate c =
+    let p = c.args.catalogue.now in
+    let curve = c.in_ok-curve.curve in
+    let some = c.in_ok-curve.ensures.shape.some in
+    let points = c.points.ensures.count in
+    let full = ap length c.points.ensures.points in
+    let many : suc (length c.points.result.now - 2) ≡ length curve.cuts = omega (arith, some, points, full) in
+    let s = solved p c.in_ok-net.net curve (answer_of c.in_ok-prices.prices c.in_ok-sets.sets c.in_ok-charges.charges) (length c.points.result.now - 2) c.parts.ensures.limits
+    c.in_ok-net.ensures c.in_ok-curve.ensures.curve c.in_ok-curve.ensures.certificate c.in_ok-curve.ensures.shape many c.in_ok-prices.ensures c.in_ok-sets.ensures
+    c.in_ok-charges.ensures in
+    rw c.new.ensures s.certificate
+
+pub returns-clause-shape : goal.returns-clause-shape
+returns-clause-shape c =
+    let p = c.args.catalogue.now in
+    let curve = c.in_ok-curve.curve in
+    let some = c.in_ok-curve.ensures.shape.some in
+    let points = c.points.ensures.count in
+    let full = ap length c.points.ensures.points in
+    let many : suc (length c.points.result.now - 2) ≡ length curve.cuts = omega (arith, some, points, full) in
+    let s = solved p c.in_ok-net.net curve (answer_of c.in_ok-prices.prices c.in_ok-sets.sets c.in_ok-charges.charges) (length c.points.result.now - 2) c.parts.ensures.limits
+    c.in_ok-net.ensures c.in_ok-curve.ensures.curve c.in_ok-curve.ensures.certificate c.in_ok-curve.ensures.shape many c.in_ok-prices.ensures c.in_ok-sets.ensures
+    c.in_ok-charges.ensures in
+    rw c.new.ensures s.shape
