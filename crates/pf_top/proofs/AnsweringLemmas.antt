@@ -11,12 +11,12 @@ use Rattle.pf_lines.specs.Places.{Place, lines_left}
 use Rattle.pf_lines.specs.declared.errors.ReadBad.{ReadBad}
 use Rattle.pf_lines.specs.declared.errors.ReadBad.TheVariants as reads
 use Rattle.pf_lines.specs.Reading.{Agrees}
-use Rattle.pf_top.specs.Job.{Row, job_of, ProblemOf, Command, answer, check, row_of}
+use Rattle.pf_top.specs.Job.{Row, job_of, ProblemOf, TextCommand, answer, check, row_of}
 use Rattle.pf_top.specs.Asked.{accepted, asked_of_read, asked_of_bytes}
 use Rattle.pf_top.specs.Answering.{IsBadText, IsReadTo, IsRefused, IsProblemOf}
 
 -- bytes that are not too many
-asks_read : (command : Command) (bytes : List ℕ) → length bytes ≤ 2 ^ 29
+asks_read : (command : TextCommand) (bytes : List ℕ) → length bytes ≤ 2 ^ 29
     → asked_of_bytes command bytes ≡ asked_of_read command (problem_of (job_of (row_of command)).kind bytes)
 asks_read command bytes short = rw (le-ltb (2 ^ 29) (length bytes) short) refl
 
@@ -34,7 +34,7 @@ pub bad_text : {P : Type 0} (row : Row) (value : P → Accepted (ProblemOf row))
 bad_text row value before r bad refusal judged e same = record { bad = bad; judged = rw e at judged; same = same }
 
 -- a text that is refused
-pub refused_text : (command : Command) (bytes : List ℕ) (start : Place) (refusal : Refusal) → length bytes ≤ 2 ^ 29 → Begins start bytes → IsBadText (row_of command) start refusal → IsRefused command bytes refusal
+pub refused_text : (command : TextCommand) (bytes : List ℕ) (start : Place) (refusal : Refusal) → length bytes ≤ 2 ^ 29 → Begins start bytes → IsBadText (row_of command) start refusal → IsRefused command bytes refusal
 unfolding problem_of
 refused_text command bytes start refusal short begins b = rw b.same (record {
   asks = asks_read command bytes short ∙ rw (rw begins at b.judged) refl;

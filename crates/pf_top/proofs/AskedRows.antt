@@ -1,5 +1,5 @@
 -- What words and texts ask for: worked rows, by computation alone.
-use Rattle.std.proofs.Common.{◌≡◌, [], ◌∷◌, ◌++◌, refl}
+use Rattle.std.proofs.Common.{◌≡◌, ℕ, List, [], ◌∷◌, ◌++◌, Some, None, refl}
 use Rattle.std.specs.Prelude.{pos, codes}
 use Rattle.pf_model.specs.Fraction.{lowest}
 use Rattle.pf_text.specs.declared.TextBad.TheVariants.{Syntax, WrongKind}
@@ -11,9 +11,9 @@ use Rattle.pf_par.specs.Text.{par}
 use Rattle.pf_text.specs.Words.{parameter_of}
 use Rattle.pf_text.proofs.Rows.{text}
 use Rattle.pf_par.proofs.Rows.{two_lines, two}
-use Rattle.pf_top.specs.Job.{at, named, answer, check}
+use Rattle.pf_top.specs.Job.{at, trees, named, answer, check, reads, draws}
 use Rattle.pf_top.specs.declared.words.Name.TheVariants.{Curve}
-use Rattle.pf_top.specs.Asked.{usage, refused, accepted, command_of, asked}
+use Rattle.pf_top.specs.Asked.{usage, refused, accepted, drawn, command_of, asked}
 
 -- a parameter, and the same with a leading zero and not in lowest terms
 at_four : asked (codes "at" ∷ codes "4/1" ∷ []) (text two_lines)
@@ -96,3 +96,33 @@ outside_of_refused : asked (codes "at" ∷ codes "11/1" ∷ []) (text (codes "p 
     ≡ refused (Text (WrongKind 1))
 unfolding text raw_lines fields lines_from natural_of whole_of header step end_line problem_of par lowest parameter_of command_of asked
 outside_of_refused = refl
+
+-- numbers of trees, from 1 to 500
+two_trees : command_of (codes "trees" ∷ codes "02" ∷ []) ≡ Some (reads (answer (trees 2)))
+unfolding natural_of command_of
+two_trees = refl
+
+no_trees : command_of (codes "trees" ∷ codes "0" ∷ []) ≡ None
+unfolding natural_of command_of
+no_trees = refl
+
+too_many_trees : command_of (codes "trees" ∷ codes "501" ∷ []) ≡ None
+unfolding natural_of command_of
+too_many_trees = refl
+
+-- seeds, below 2^64: whatever the bytes
+seven : (bytes : List ℕ) → asked (codes "generate" ∷ codes "007" ∷ []) bytes ≡ drawn 7
+unfolding natural_of command_of asked
+seven bytes = refl
+
+last_seed : command_of (codes "generate" ∷ codes "18446744073709551615" ∷ []) ≡ Some (draws 18446744073709551615)
+unfolding natural_of command_of
+last_seed = refl
+
+past_the_last_seed : command_of (codes "generate" ∷ codes "18446744073709551616" ∷ []) ≡ None
+unfolding natural_of command_of
+past_the_last_seed = refl
+
+no_seed_below_zero : command_of (codes "generate" ∷ codes "-0" ∷ []) ≡ None
+unfolding natural_of command_of
+no_seed_below_zero = refl

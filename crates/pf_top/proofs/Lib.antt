@@ -1,5 +1,7 @@
+pub mod NaturalLemmas
 pub mod RequestLemmas
 pub mod PointLemmas
+pub mod TreesLemmas
 pub mod AnsweringLemmas
 pub mod RunningLemmas
 pub mod AskedRows

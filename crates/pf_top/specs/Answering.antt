@@ -6,7 +6,7 @@ use Rattle.pf_text.specs.declared.Refusal.TheVariants.{Text, TooLong}
 use Rattle.pf_text.specs.Lines.{lines_from}
 use Rattle.pf_text.specs.Kinds.{problem_of_lines, problem_of}
 use Rattle.pf_lines.specs.Places.{Place, lines_left}
-use Rattle.pf_top.specs.Job.{Row, job_of, ProblemOf, Command}
+use Rattle.pf_top.specs.Job.{Row, job_of, ProblemOf, TextCommand}
 use Rattle.pf_top.specs.Asked.{refused, asked_of_bytes}
 use Rattle.pf_top.specs.declared.job.Stop.{Stop}
 use Rattle.pf_top.specs.declared.job.Stop.TheVariants as Stopped
@@ -14,7 +14,7 @@ use Rattle.pf_top.specs.declared.status.Status.{Status}
 use Rattle.pf_top.specs.declared.status.Status.TheVariants.{Refused, NoMemory}
 
 -- the bytes are refused, but not for their number
-pub record IsRefused (command : Command) (bytes : List ℕ) (refusal : Refusal) : Type 0 where
+pub record IsRefused (command : TextCommand) (bytes : List ℕ) (refusal : Refusal) : Type 0 where
   pub asks : asked_of_bytes command bytes ≡ refused refusal
   pub short : refusal ≢ TooLong
 

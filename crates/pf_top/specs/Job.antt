@@ -10,8 +10,18 @@ use Rattle.pf_par.specs.Right.{is_outside, IsRightPoint, IsRightCurve, IsCertifi
 use Rattle.pf_closure.specs.Problem.{ClosureProblem}
 use Rattle.pf_closure.specs.Text.{Given as ClosureGiven, closure}
 use Rattle.pf_closure.specs.Right.{IsRightRatio, IsCertifiedRatio}
+use Rattle.pf_graph.specs.declared.graph.Task.{Task}
+use Rattle.pf_graph.specs.WeightedGraph.{WeightedGraph}
+use Rattle.pf_graph.specs.Text.{Given as GraphGiven, graph}
+use Rattle.pf_dense.specs.Right.{IsRightDense, IsCertifiedDense}
+use Rattle.pf_strength.specs.Right.{IsRightStrength, IsCertifiedStrength}
+use Rattle.pf_trees.specs.Text.{IsRightTrees}
+use Rattle.pf_select.specs.Problem.{SelectionProblem}
+use Rattle.pf_select.specs.Text.{Given as SelectGiven, select}
+use Rattle.pf_select.specs.Right.{IsRightSchedule, IsCertifiedSchedule}
+use Rattle.pf_principal.specs.Right.{IsRightPrincipal, IsCertifiedPrincipal}
 use Rattle.pf_top.specs.declared.words.Name.{Name}
-use Rattle.pf_top.specs.declared.words.Name.TheVariants.{Curve, Closure}
+use Rattle.pf_top.specs.declared.words.Name.TheVariants.{Curve, Closure, Densest, Strength, Select, Partition}
 
 pub record Job : Type 1 where
   -- what the lines of its text have given so far, and the problem that they give
@@ -29,6 +39,7 @@ pub record Job : Type 1 where
 -- the rows: commands with a parameter, and those that a name alone asks for
 pub data Row : Type 0 where
   at : Fraction → Row
+  trees : ℕ → Row
   named : Name → Row
 
 -- the table
@@ -40,6 +51,14 @@ job_of (at x) = record {
   refusal = λ net. if is_outside x net then Some Outside else None;
   IsRight = IsRightPoint x;
   Certifies = λ net text. ⊥;
+}
+job_of (trees k) = record {
+  Lines = GraphGiven;
+  Problem = WeightedGraph;
+  kind = graph Task.Partitions;
+  refusal = λ g. None;
+  IsRight = IsRightTrees k;
+  Certifies = λ g text. ⊥;
 }
 job_of (named Curve) = record {
   Lines = Given;
@@ -57,15 +76,52 @@ job_of (named Closure) = record {
   IsRight = IsRightRatio;
   Certifies = IsCertifiedRatio;
 }
+job_of (named Densest) = record {
+  Lines = GraphGiven;
+  Problem = WeightedGraph;
+  kind = graph Task.Densest;
+  refusal = λ g. None;
+  IsRight = IsRightDense;
+  Certifies = IsCertifiedDense;
+}
+job_of (named Strength) = record {
+  Lines = GraphGiven;
+  Problem = WeightedGraph;
+  kind = graph Task.Partitions;
+  refusal = λ g. None;
+  IsRight = IsRightStrength;
+  Certifies = IsCertifiedStrength;
+}
+job_of (named Select) = record {
+  Lines = SelectGiven;
+  Problem = SelectionProblem;
+  kind = select;
+  refusal = λ p. None;
+  IsRight = IsRightSchedule;
+  Certifies = IsCertifiedSchedule;
+}
+job_of (named Partition) = record {
+  Lines = GraphGiven;
+  Problem = WeightedGraph;
+  kind = graph Task.Partitions;
+  refusal = λ g. None;
+  IsRight = IsRightPrincipal;
+  Certifies = IsCertifiedPrincipal;
+}
 
 abbrev pub ProblemOf : Row → Type 0
 ProblemOf row = (job_of row).Problem
 
--- an answer is sought, or one behind the problem is checked
-pub data Command : Type 0 where
-  answer : Row → Command
-  check : Row → Command
+-- a command over a text: an answer is sought, or one behind the problem is checked
+pub data TextCommand : Type 0 where
+  answer : Row → TextCommand
+  check : Row → TextCommand
 
-abbrev pub row_of : Command → Row
+abbrev pub row_of : TextCommand → Row
 row_of (answer row) = row
 row_of (check row) = row
+
+-- a command: over a text that is read, or over the network that a seed draws, for which nothing is read
+pub data Command : Type 0 where
+  reads : TextCommand → Command
+  draws : ℕ → Command

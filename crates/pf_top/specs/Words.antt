@@ -6,9 +6,11 @@ use Rattle.std.specs.declared.alloc.Global.{Global}
 use Rattle.pf_model.specs.Fraction.{Fraction}
 use Rattle.pf_text.specs.Numbers.{natural_of, whole_of, billion}
 use Rattle.pf_text.specs.Words.{natural_within, integer_within, fraction_of_numbers}
-use Rattle.pf_top.specs.Job.{at, named, Command, answer, check}
+use Rattle.pf_top.specs.Job.{at, trees, named, TextCommand, answer, check, Command, reads, draws}
+use Rattle.pf_top.specs.declared.words.TextRequest.{TextRequest}
+use Rattle.pf_top.specs.declared.words.TextRequest.TheVariants.{At, Trees, Answer, Check}
 use Rattle.pf_top.specs.declared.words.Request.{Request}
-use Rattle.pf_top.specs.declared.words.Request.TheVariants.{At, Answer, Check}
+use Rattle.pf_top.specs.declared.words.Request.TheVariants.{Text, Generate}
 
 -- the bytes of each word
 abbrev pub word_bytes : List (String Global) → List (List ℕ)
@@ -19,7 +21,12 @@ abbrev pub fraction_of_parts : List ℕ → List ℕ → Option Fraction
 fraction_of_parts front back = fraction_of_numbers (integer_within (neg_ℤ (pos billion)) (pos billion) (whole_of front)) (natural_within 1 billion (natural_of back))
 
 -- the command that a request stands for
+abbrev pub text_command_of : TextRequest → TextCommand
+text_command_of (At job) = answer (at job.parameter)
+text_command_of (Trees k) = answer (trees k)
+text_command_of (Answer name) = answer (named name)
+text_command_of (Check name) = check (named name)
+
 abbrev pub command_of_request : Request → Command
-command_of_request (At job) = answer (at job.parameter)
-command_of_request (Answer name) = answer (named name)
-command_of_request (Check name) = check (named name)
+command_of_request (Text request) = reads (text_command_of request)
+command_of_request (Generate seed) = draws seed

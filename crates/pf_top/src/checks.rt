@@ -2,20 +2,33 @@
 ghost use Rattle.std.specs.Prelude.{◌<◌, length};
 
 use super::*;
-use crate::texts::{FIVE, FIVE_CERTIFICATE, STEEP, STEEP_CURVE, THREE};
+use crate::texts::{
+    DEAR, DEAR_DENSEST, FIVE, FIVE_CERTIFICATE, LIGHT, LIGHT_AND_HEAVY, LIGHT_AND_HEAVY_PARTITION,
+    LIGHT_RATIO, PARTS, PARTS_SELECT, STEEP, STEEP_CURVE, THREE, TRIANGLE, TRIANGLE_STRENGTH,
+    TWO_PAIRS, TWO_PAIRS_STRENGTH,
+};
+use pf_gen::net_text;
 use pf_io::{MemSink, MemSource};
 use std::alloc::{AllocError, Global};
 use std::test::Fail;
 
 // The name of a command, a problem, and a text that certifies its answer.
-const CERTIFIED: [(&str, &[u8], &[u8]); 2] = [
+const CERTIFIED: [(&str, &[u8], &[u8]); 8] = [
     ("curve", STEEP, STEEP_CURVE),
     ("curve", FIVE, FIVE_CERTIFICATE),
+    ("closure", LIGHT, LIGHT_RATIO),
+    ("densest", DEAR, DEAR_DENSEST),
+    ("strength", TRIANGLE, TRIANGLE_STRENGTH),
+    ("strength", TWO_PAIRS, TWO_PAIRS_STRENGTH),
+    ("select", PARTS, PARTS_SELECT),
+    ("partition", LIGHT_AND_HEAVY, LIGHT_AND_HEAVY_PARTITION),
 ];
 
 // The same, and a text that certifies nothing: a flow that leaves a node out, a breakpoint left out, nothing, and a side
-// that holds the sink.
-const REJECTED: [(&str, &[u8], &[u8]); 4] = [
+// that holds the sink; the greatest least cut in place of the smallest; the second best closure; all vertices, at the density
+// of two of them; a partition of another ratio, and one with one part; a schedule that leaves out a price; a principal
+// partition that leaves out a level.
+const REJECTED: [(&str, &[u8], &[u8]); 11] = [
     (
         "curve",
         FIVE,
@@ -31,6 +44,33 @@ const REJECTED: [(&str, &[u8], &[u8]); 4] = [
         "curve",
         THREE,
         b"o curve\nk 1\nb 0 0 1 0\ns 1 0 0 111\nb 1 10 1 0\nf 0 0 0\nf 1 0 0\nend\n",
+    ),
+    (
+        "curve",
+        b"p par 3 2\ni 0 1 1 1\nn 1 s\nn 3 t\na 1 2 1 0\na 2 3 1 0\nend\n",
+        b"o curve\nk 1\nb 0 0 1 1\ns 1 1 0 110\nb 1 1 1 1\nf 0 1 1\nf 1 1 1\nend\n",
+    ),
+    ("closure", LIGHT, b"o closure\nr 5 1\ns 01\nf 0\nend\n"),
+    ("densest", DEAR, b"o densest\nd 1 1\ns 111\nf 2 0\nend\n"),
+    (
+        "strength",
+        TRIANGLE,
+        b"o strength\nd 2 1\nk 2\ns 1 2 2\ny 1 1 1\nr 1 0 1 0\nr 2 1 0 0\nr 3 1 1 1\nend\n",
+    ),
+    (
+        "strength",
+        TWO_PAIRS,
+        b"o strength\nd 0 1\nk 1\ns 1 1 1 1\ny 0 0\nr 1 0 0\nr 2 0 0\nr 3 0 0\nr 4 0 0\nend\n",
+    ),
+    (
+        "select",
+        PARTS,
+        b"o select\nk 1\ns 0 111\nb 1 2 1 2\ns 1 000\nf 1 4 6 2\nend\n",
+    ),
+    (
+        "partition",
+        LIGHT_AND_HEAVY,
+        b"o partition\nk 1\ns 0 1 1 1\nb 1 3 2 0\ns 1 1 2 3\ny 1 2 3\nr 1 1 0 0\nr 1 2 2 0\nr 1 3 2 3\nend\n",
     ),
 ];
 
@@ -182,6 +222,22 @@ fn verdicts(rt: HostRuntime) -> Result<(), Fail> {
     for (name, problem, answer) in REJECTED {
         assert!(rt; is_verdict(alloc, name, problem, answer, Status::No, NO)?);
     }
+    Ok(())
+}
+
+// A network that seed 7 draws, and the curve that the program finds.
+#[test]
+fn the_curve_of_a_drawn_network_is_certified(rt: HostRuntime) -> Result<(), Fail> {
+    let alloc = rt.alloc();
+    let text = net_text(alloc, 7, 60, 400)?;
+    let words = [String::from_str(alloc, "curve")?];
+    let mut source = MemSource::new(alloc, text.as_slice(), 512, &[])?;
+    let mut out = MemSink::new(alloc, 1 << 20, 4096, &[])?;
+    let mut err = MemSink::new(alloc, 64, 10, &[])?;
+    let status = run(alloc, &words, &mut source, &mut out, &mut err);
+    assert_eq!(rt; status, Status::Done);
+    assert!(rt; out.taken().starts_with(b"o curve\nk 45\nb 0 0 1 46495\n"));
+    assert!(rt; is_verdict(alloc, "curve", &text, out.taken(), Status::Done, YES)?);
     Ok(())
 }
 

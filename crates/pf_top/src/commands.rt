@@ -1,4 +1,11 @@
-// The commands, each of which is an impl of `Job`, and of `Checked` where its answers can be checked.
+// The commands, each of which is an impl of `Job`, and of `Checked` where its answers can be checked; and `generate`, which
+// reads no text.
 pub mod at;
 pub mod closure;
 pub mod curve;
+pub mod densest;
+pub mod generate;
+pub mod partition;
+pub mod select;
+pub mod strength;
+pub mod trees;

@@ -7,6 +7,7 @@
 #![tactic(auto)]
 
 mod commands;
+mod divisible;
 mod job;
 mod messages;
 mod running;
@@ -18,6 +19,8 @@ pub use pf_text::Refusal;
 pub use running::run;
 pub use status::Status;
 
+#[cfg(test)]
+mod beside;
 #[cfg(test)]
 mod checks;
 #[cfg(test)]

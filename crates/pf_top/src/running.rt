@@ -1,17 +1,22 @@
 // From the words and the bytes of a source to the bytes of a sink and a status.
 ghost use Rattle.std.specs.Prelude.{◌≡◌, ℕ, List, ◌↔◌, ◌≤◌, ◌^◌, Some, None, length};
-ghost use Rattle.pf_top.specs.Job.{named, answer, check};
+ghost use Rattle.pf_top.specs.Job.{named, answer, check, reads};
 ghost use Rattle.pf_top.specs.Asked.{command_of};
-ghost use Rattle.pf_top.specs.Words.{word_bytes, command_of_request};
+ghost use Rattle.pf_top.specs.Words.{word_bytes, text_command_of, command_of_request};
 ghost use Rattle.pf_top.specs.Messages.{ErrAfter};
 ghost use Rattle.pf_top.specs.Running.{IsEnd, IsRun};
 
 use crate::commands::closure::Closure;
 use crate::commands::curve::Curve;
+use crate::commands::densest::Densest;
+use crate::commands::generate::generate;
+use crate::commands::partition::Partition;
+use crate::commands::select::Select;
+use crate::commands::strength::Strength;
 use crate::job::{answer, check};
 use crate::messages::tell;
 use crate::status::Status;
-use crate::words::{Name, Request, read_words};
+use crate::words::{Name, Request, TextRequest, read_words};
 use pf_io::{ReadEnd, Sink, Source, read_all};
 use pf_text::Refusal;
 use std::alloc::Global;
@@ -27,6 +32,10 @@ fn answer_named<O: Sink>(name: Name, alloc: Global, bytes: &[u8], out: &mut O) -
     match name {
         Name::Curve => answer(&Curve, alloc, bytes, out),
         Name::Closure => answer(&Closure, alloc, bytes, out),
+        Name::Densest => answer(&Densest, alloc, bytes, out),
+        Name::Strength => answer(&Strength, alloc, bytes, out),
+        Name::Select => answer(&Select, alloc, bytes, out),
+        Name::Partition => answer(&Partition, alloc, bytes, out),
     }
 }
 
@@ -38,24 +47,34 @@ fn check_named<O: Sink>(name: Name, alloc: Global, bytes: &[u8], out: &mut O) ->
     match name {
         Name::Curve => check(&Curve, alloc, bytes, out),
         Name::Closure => check(&Closure, alloc, bytes, out),
+        Name::Densest => check(&Densest, alloc, bytes, out),
+        Name::Strength => check(&Strength, alloc, bytes, out),
+        Name::Select => check(&Select, alloc, bytes, out),
+        Name::Partition => check(&Partition, alloc, bytes, out),
     }
 }
 
 // The command of a request, from its bytes to its status.
-fn run_request<O: Sink>(alloc: Global, request: &Request, bytes: &[u8], out: &mut O) -> Status
+fn run_request<O: Sink>(alloc: Global, request: &TextRequest, bytes: &[u8], out: &mut O) -> Status
     requires { length bytes.now ≤ 2 ^ 29 }
-    ensures { IsEnd O.Sink out.old out.new (command_of_request request.now) bytes.now result }
+    ensures { IsEnd O.Sink out.old out.new (text_command_of request.now) bytes.now result }
 {
     match request {
-        Request::At(job) => answer(job, alloc, bytes, out),
-        Request::Answer(name) => answer_named(*name, alloc, bytes, out),
-        Request::Check(name) => check_named(*name, alloc, bytes, out),
+        TextRequest::At(job) => answer(job, alloc, bytes, out),
+        TextRequest::Trees(job) => answer(job, alloc, bytes, out),
+        TextRequest::Answer(name) => answer_named(*name, alloc, bytes, out),
+        TextRequest::Check(name) => check_named(*name, alloc, bytes, out),
     }
 }
 
-// The run with a command, up to its status.
-fn work<S: Source, O: Sink>(alloc: Global, request: &Request, source: &mut S, out: &mut O) -> Status
-    ensures { (words : List (List ℕ)) → command_of words ≡ Some (command_of_request request.now)
+// The run with a command over a text, up to its status.
+fn work<S: Source, O: Sink>(
+    alloc: Global,
+    request: &TextRequest,
+    source: &mut S,
+    out: &mut O,
+) -> Status
+    ensures { (words : List (List ℕ)) → command_of words ≡ Some (reads (text_command_of request.now))
         → IsRun S.Source source.old source.new O.Sink out.old out.new words result }
 {
     let bytes = match read_all(alloc, source, LIMIT) {
@@ -67,8 +86,20 @@ fn work<S: Source, O: Sink>(alloc: Global, request: &Request, source: &mut S, ou
     run_request(alloc, request, &bytes, out)
 }
 
+// The run with a command, up to its status.
+fn obey<S: Source, O: Sink>(alloc: Global, request: &Request, source: &mut S, out: &mut O) -> Status
+    ensures { (words : List (List ℕ)) → command_of words ≡ Some (command_of_request request.now)
+        → IsRun S.Source source.old source.new O.Sink out.old out.new words result }
+{
+    match request {
+        Request::Text(request) => work(alloc, request, source, out),
+        Request::Generate(seed) => generate(alloc, *seed, out),
+    }
+}
+
 /// Runs the command of the words on all that the source has left. The answer goes to `out`, or a line to `err` says why
-/// there is none. The answer is made whole before its first byte goes out.
+/// there is none. The answer is made whole before its first byte goes out. `generate` reads nothing, and leaves the source as
+/// it was.
 ///
 /// - `Done`: `out` took the whole text of a right answer, and it was flushed. `No`: likewise, and the answer is `no`.
 /// - `Usage`: exactly where the words are no command. The source is left as it was.
@@ -97,7 +128,7 @@ pub fn run<S: Source, O: Sink, E: Sink>(
 {
     let status = match read_words(words) {
         None => Status::Usage,
-        Some(request) => work(alloc, &request, source, out),
+        Some(request) => obey(alloc, &request, source, out),
     };
     tell(status, err);
     status

@@ -1,5 +1,9 @@
 use super::*;
-use crate::texts::{FIVE, STEEP, STEEP_CURVE, THREE, THREE_AT_FOUR, THREE_CURVE};
+use crate::texts::{
+    COMPLETE, DEAR, DEAR_DENSEST, EDGE, FIVE, LIGHT_AND_HEAVY, LIGHT_AND_HEAVY_PARTITION, PARTS,
+    PARTS_SELECT, STEEP, STEEP_CURVE, THREE, THREE_AT_FOUR, THREE_CURVE, TRIANGLE,
+    TRIANGLE_STRENGTH, TWO_PAIRS, TWO_PAIRS_STRENGTH,
+};
 use pf_io::{MemSink, MemSource};
 use std::alloc::{AllocError, Global};
 use std::test::Fail;
@@ -100,6 +104,59 @@ const ANSWERED: [(&str, &[u8]); 3] = [
     ),
 ];
 
+// A text, and the answer to `strength`: a triangle, two pairs, and the greatest weight.
+const STRENGTHS: [(&[u8], &[u8]); 3] = [
+    (TRIANGLE, TRIANGLE_STRENGTH),
+    (TWO_PAIRS, TWO_PAIRS_STRENGTH),
+    (
+        b"p graph 2 1\ne 1 2 1000000\nend\n",
+        b"o strength\nd 1000000 1\nk 2\ns 1 2\ny 1000000\nr 1 0\nr 2 1000000\nend\n",
+    ),
+];
+
+// A text, and the answer to `select`: two prices, one price, no product, and the greatest gain.
+const SELECTIONS: [(&[u8], &[u8]); 4] = [
+    (PARTS, PARTS_SELECT),
+    (
+        b"p select 2 1 2\nv 1 2\nv 2 3\ng 1 10\nr 1 1\nr 1 2\nend\n",
+        b"o select\nk 1\ns 0 11\nb 1 2 1 0\ns 1 00\nf 1 4 6\nend\n",
+    ),
+    (
+        b"p select 2 0 0\nv 1 2\nv 2 3\nend\n",
+        b"o select\nk 0\ns 0 00\nend\n",
+    ),
+    (
+        b"p select 1 1 1\nv 1 1\ng 1 1000000\nr 1 1\nend\n",
+        b"o select\nk 1\ns 0 1\nb 1 1000000 1 0\ns 1 0\nf 1 1000000\nend\n",
+    ),
+];
+
+// A text that `select` refuses, and the line that says why.
+const NOT_SELECTED: [(&[u8], &[u8]); 3] = [
+    (
+        b"p select 1 1 0\nv 1 2\ng 1 3\ng 1 3\nend\n",
+        b"ppart: line 4: rule repeated\n",
+    ),
+    (
+        b"p select 1 1 0\nv 1 2\nend\n",
+        b"ppart: line 3: rule missing\n",
+    ),
+    (
+        b"p select 2 1 1\nv 1 2\nv 2 3\ng 1 3\nr 2 1\nend\n",
+        b"ppart: line 5: range\n",
+    ),
+];
+
+// A text, and the answer to `partition`: no edge, one edge, and two levels.
+const PARTITIONS: [(&[u8], &[u8]); 3] = [
+    (b"p graph 2 0\nend\n", b"o partition\nk 0\ns 0 1 2\nend\n"),
+    (
+        b"p graph 2 1\ne 1 2 1\nend\n",
+        b"o partition\nk 1\ns 0 1 1\nb 1 1 1 0\ns 1 1 2\ny 1 1\nr 1 1 0\nr 1 2 1\nend\n",
+    ),
+    (LIGHT_AND_HEAVY, LIGHT_AND_HEAVY_PARTITION),
+];
+
 // A text, and the answer to `curve`.
 const CURVES: [(&[u8], &[u8]); 9] = [
     (
@@ -134,11 +191,70 @@ const CURVES: [(&[u8], &[u8]); 9] = [
     ),
 ];
 
+// A text, and the answer to `densest`: no edge, one edge, a dear vertex, and the same with costs of 1.
+const DENSEST: [(&[u8], &[u8]); 4] = [
+    (b"p graph 3 0\nend\n", b"o densest\nd 0 1\ns 111\nf\nend\n"),
+    (
+        b"p graph 2 1\ne 1 2 1\nend\n",
+        b"o densest\nd 1 2\ns 11\nf 2\nend\n",
+    ),
+    (DEAR, DEAR_DENSEST),
+    (
+        b"p graph 3 2\ne 1 2 2\ne 2 3 3\nend\n",
+        b"o densest\nd 5 3\ns 111\nf 10 8\nend\n",
+    ),
+];
+
+// A text that `densest` refuses, and the line that says why.
+const NOT_DENSEST: [(&[u8], &[u8]); 4] = [
+    (
+        b"p graph 2 0\nv 1 2\nv 1 3\nend\n",
+        b"ppart: line 3: rule repeated\n",
+    ),
+    (
+        b"p graph 2 0\nv 1 0\nv 1 3\nend\n",
+        b"ppart: line 2: range\n",
+    ),
+    (
+        b"p graph 2 1\ne 1 1 4\nend\n",
+        b"ppart: line 2: rule loop\n",
+    ),
+    (THREE, b"ppart: line 1: wrong kind\n"),
+];
+
+// A number of trees, a text, and how the answer to `trees` begins. Where several answers are right, that is not all of it.
+const TREES: [(&str, &[u8], &[u8]); 5] = [
+    ("2", COMPLETE, b"o trees\nk 2\nm "),
+    ("3", COMPLETE, b"o trees\nk 3\nnone\n"),
+    ("2", TRIANGLE, b"o trees\nk 2\nnone\ns 1 2 3\nc 3\nend\n"),
+    ("1", EDGE, b"o trees\nk 1\nm 1\nend\n"),
+    ("0500", EDGE, b"o trees\nk 500\nnone\ns 1 2\nc 1\nend\n"),
+];
+
+// Two words that are no command.
+const NO_COMMAND: [(&str, &str); 7] = [
+    ("trees", "0"),
+    ("trees", "501"),
+    ("trees", "-1"),
+    ("check", "trees"),
+    ("generate", "-0"),
+    ("generate", "18446744073709551616"),
+    ("generate", ""),
+];
+
+// What `generate` prints for seed 7.
+const SEVEN: &[u8] = b"o generate\ng 300 3000 258 365350 360273\nend\n";
+
+// Two words.
+fn two_words(alloc: Global, first: &str, second: &str) -> Result<[String; 2], AllocError> {
+    let first = String::from_str(alloc, first)?;
+    let second = String::from_str(alloc, second)?;
+    Ok([first, second])
+}
+
 // The word `at` and this one.
 fn at_words(alloc: Global, parameter: &str) -> Result<[String; 2], AllocError> {
-    let first = String::from_str(alloc, "at")?;
-    let second = String::from_str(alloc, parameter)?;
-    Ok([first, second])
+    two_words(alloc, "at", parameter)
 }
 
 #[test]
@@ -174,11 +290,63 @@ fn answers(rt: HostRuntime) -> Result<(), Fail> {
     Ok(())
 }
 
+// Whether the command of this name has this answer to the text.
+fn is_answer(alloc: Global, name: &str, text: &[u8], answer: &[u8]) -> Result<bool, Fail> {
+    let words = [String::from_str(alloc, name)?];
+    let mut source = MemSource::new(alloc, text, 16, &[])?;
+    let mut out = MemSink::new(alloc, 256, 10, &[])?;
+    let mut err = MemSink::new(alloc, 64, 10, &[])?;
+    let status = run(alloc, &words, &mut source, &mut out, &mut err);
+    Ok(status == Status::Done && out.taken() == answer)
+}
+
 #[test]
 fn answers_for_the_whole_interval(rt: HostRuntime) -> Result<(), Fail> {
-    let alloc = rt.alloc();
-    let words = [String::from_str(alloc, "curve")?];
     for (text, answer) in CURVES {
+        assert!(rt; is_answer(rt.alloc(), "curve", text, answer)?);
+    }
+    Ok(())
+}
+
+#[test]
+fn answers_to_strength(rt: HostRuntime) -> Result<(), Fail> {
+    for (text, answer) in STRENGTHS {
+        assert!(rt; is_answer(rt.alloc(), "strength", text, answer)?);
+    }
+    Ok(())
+}
+
+#[test]
+fn answers_with_selections(rt: HostRuntime) -> Result<(), Fail> {
+    let alloc = rt.alloc();
+    for (text, answer) in SELECTIONS {
+        assert!(rt; is_answer(alloc, "select", text, answer)?);
+    }
+    let words = [String::from_str(alloc, "select")?];
+    for (text, line) in NOT_SELECTED {
+        let mut source = MemSource::new(alloc, text, 16, &[])?;
+        let mut out = MemSink::new(alloc, 64, 10, &[])?;
+        let mut err = MemSink::new(alloc, 64, 10, &[])?;
+        let status = run(alloc, &words, &mut source, &mut out, &mut err);
+        assert_eq!(rt; status.code(), 3);
+        assert_eq!(rt; err.taken(), line);
+    }
+    Ok(())
+}
+
+#[test]
+fn answers_with_the_principal_partition(rt: HostRuntime) -> Result<(), Fail> {
+    for (text, answer) in PARTITIONS {
+        assert!(rt; is_answer(rt.alloc(), "partition", text, answer)?);
+    }
+    Ok(())
+}
+
+#[test]
+fn answers_with_the_densest_set(rt: HostRuntime) -> Result<(), Fail> {
+    let alloc = rt.alloc();
+    let words = [String::from_str(alloc, "densest")?];
+    for (text, answer) in DENSEST {
         let mut source = MemSource::new(alloc, text, 16, &[])?;
         let mut out = MemSink::new(alloc, 256, 10, &[])?;
         let mut err = MemSink::new(alloc, 64, 10, &[])?;
@@ -186,6 +354,69 @@ fn answers_for_the_whole_interval(rt: HostRuntime) -> Result<(), Fail> {
         assert_eq!(rt; status, Status::Done);
         assert_eq!(rt; out.taken(), answer);
     }
+    for (text, line) in NOT_DENSEST {
+        let mut source = MemSource::new(alloc, text, 16, &[])?;
+        let mut out = MemSink::new(alloc, 64, 10, &[])?;
+        let mut err = MemSink::new(alloc, 64, 10, &[])?;
+        let status = run(alloc, &words, &mut source, &mut out, &mut err);
+        assert_eq!(rt; status.code(), 3);
+        assert_eq!(rt; err.taken(), line);
+    }
+    Ok(())
+}
+
+#[test]
+fn answers_about_trees(rt: HostRuntime) -> Result<(), Fail> {
+    let alloc = rt.alloc();
+    for (count, text, front) in TREES {
+        let words = two_words(alloc, "trees", count)?;
+        let mut source = MemSource::new(alloc, text, 16, &[])?;
+        let mut out = MemSink::new(alloc, 64, 10, &[])?;
+        let mut err = MemSink::new(alloc, 64, 10, &[])?;
+        let status = run(alloc, &words, &mut source, &mut out, &mut err);
+        assert_eq!(rt; status, Status::Done);
+        assert!(rt; out.taken().starts_with(front));
+    }
+    Ok(())
+}
+
+// Each read would fail, and each of these statuses comes before the first.
+#[test]
+fn usage_reads_nothing(rt: HostRuntime) -> Result<(), Fail> {
+    let alloc = rt.alloc();
+    for (first, second) in NO_COMMAND {
+        let words = two_words(alloc, first, second)?;
+        let mut source = MemSource::new(alloc, THREE, 16, &[1])?;
+        let mut out = MemSink::new(alloc, 64, 10, &[])?;
+        let mut err = MemSink::new(alloc, 64, 10, &[])?;
+        let status = run(alloc, &words, &mut source, &mut out, &mut err);
+        assert_eq!(rt; status, Status::Usage);
+    }
+    Ok(())
+}
+
+// The status of `generate` with this seed, whose first read would fail, and what the sink took.
+fn generated(alloc: Global, seed: &str, failing: &[u64]) -> Result<(Status, MemSink), Fail> {
+    let words = two_words(alloc, "generate", seed)?;
+    let mut source = MemSource::new(alloc, THREE, 16, &[1])?;
+    let mut out = MemSink::new(alloc, 64, 10, failing)?;
+    let mut err = MemSink::new(alloc, 64, 10, &[])?;
+    let status = run(alloc, &words, &mut source, &mut out, &mut err);
+    Ok((status, out))
+}
+
+#[test]
+fn generates_the_same_twice(rt: HostRuntime) -> Result<(), Fail> {
+    let alloc = rt.alloc();
+    for seed in ["7", "007"] {
+        let (status, out) = generated(alloc, seed, &[])?;
+        assert_eq!(rt; status, Status::Done);
+        assert_eq!(rt; out.taken(), SEVEN);
+        assert_eq!(rt; out.flushed(), SEVEN.len());
+    }
+    let (status, out) = generated(alloc, "7", &[2])?;
+    assert_eq!(rt; status, Status::WriteFault);
+    assert!(rt; SEVEN.starts_with(out.taken()));
     Ok(())
 }
 

@@ -20,3 +20,45 @@ pub const FIVE: &[u8] =
 
 pub const FIVE_CERTIFICATE: &[u8] =
     b"o curve\nk 3\nb 0 0 1 2\ns 1 2 3 10000\nb 1 10 3 36\ns 2 12 0 11100\nb 2 5 1 12\ns 3 17 -1 11110\nb 3 8 1 9\nf 0 2 0 2 0 0 2 0\nf 1 16 20 15 12 1 27 9\nf 2 5 7 5 4 0 9 3\nf 3 5 4 5 1 0 6 3\nend\n";
+
+/// An item that is light on cost, and needs the other; and the least ratio, of both.
+pub const LIGHT: &[u8] = b"p closure 2 1\nv 1 1 3\nv 2 5 1\nr 1 2\nend\n";
+
+pub const LIGHT_RATIO: &[u8] = b"o closure\nr 3 2\ns 11\nf 7\nend\n";
+
+/// Two edges, of which the heavier one ends at a dear vertex; and the densest set, which leaves that vertex out.
+pub const DEAR: &[u8] = b"p graph 3 2\nv 3 5\ne 1 2 2\ne 2 3 3\nend\n";
+
+pub const DEAR_DENSEST: &[u8] = b"o densest\nd 1 1\ns 110\nf 2 0\nend\n";
+
+/// A triangle, and its strength: three parts have the ratio 3/2, and two parts 2.
+pub const TRIANGLE: &[u8] = b"p graph 3 3\ne 1 2 1\ne 2 3 1\ne 1 3 1\nend\n";
+
+pub const TRIANGLE_STRENGTH: &[u8] =
+    b"o strength\nd 3 2\nk 3\ns 1 2 3\ny 2 2 2\nr 1 0 1 0\nr 2 2 0 1\nr 3 1 2 2\nend\n";
+
+/// A product that needs two parts, and one that needs a third; and the best selections, which change at two prices.
+pub const PARTS: &[u8] =
+    b"p select 3 2 3\nv 1 2\nv 2 3\nv 3 1\ng 1 10\ng 2 4\nr 1 1\nr 1 2\nr 2 3\nend\n";
+
+pub const PARTS_SELECT: &[u8] =
+    b"o select\nk 2\ns 0 111\nb 1 2 1 2\ns 1 001\nb 2 4 1 0\ns 2 000\nf 1 4 6 2\nf 2 0 10 4\nend\n";
+
+/// A graph that is not connected.
+pub const TWO_PAIRS: &[u8] = b"p graph 4 2\ne 1 2 1\ne 3 4 1\nend\n";
+
+pub const TWO_PAIRS_STRENGTH: &[u8] =
+    b"o strength\nd 0 1\nk 2\ns 1 1 2 2\ny 0 0\nr 1 0 0\nr 2 0 0\nr 3 0 0\nr 4 0 0\nend\n";
+
+/// One edge.
+pub const EDGE: &[u8] = b"p graph 2 1\ne 1 2 1\nend\n";
+
+/// All six edges between four vertices.
+pub const COMPLETE: &[u8] =
+    b"p graph 4 6\ne 1 2 1\ne 1 3 1\ne 1 4 1\ne 2 3 1\ne 2 4 1\ne 3 4 1\nend\n";
+
+/// A light edge and a heavier one, and the principal partition: the light edge is cut first.
+pub const LIGHT_AND_HEAVY: &[u8] = b"p graph 3 2\ne 1 2 1\ne 2 3 2\nend\n";
+
+pub const LIGHT_AND_HEAVY_PARTITION: &[u8] =
+    b"o partition\nk 2\ns 0 1 1 1\nb 1 1 1 0\ns 1 1 2 2\nb 2 2 1 -1\ns 2 1 2 3\ny 1 1 1\nr 1 1 0 0\nr 1 2 1 0\nr 1 3 1 1\ny 2 1 2\nr 2 1 0 0\nr 2 2 1 0\nr 2 3 1 2\nend\n";

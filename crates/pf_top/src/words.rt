@@ -1,14 +1,16 @@
 // Which command words ask for.
-ghost use Rattle.std.specs.Prelude.{◌≡◌, ◌==◌};
+ghost use Rattle.std.specs.Prelude.{◌≡◌, ◌+◌, ◌-◌, ◌*◌, ◌^◌, ◌≤◌, ◌==◌, true, Some, IfSome};
 ghost use Rattle.std.specs.List.{position};
 ghost use Rattle.std.specs.Option.{option_map, option_and_then};
 ghost use Rattle.pf_model.specs.Fraction.{IsBoundedFraction, lowest};
-ghost use Rattle.pf_text.specs.Words.{parameter_of};
-ghost use Rattle.pf_top.specs.Job.{at, named, answer, check};
+ghost use Rattle.pf_text.specs.Numbers.{is_digit, natural_of};
+ghost use Rattle.pf_text.specs.Words.{natural_within, parameter_of};
+ghost use Rattle.pf_top.specs.Job.{at, trees, named, answer, check, reads, draws};
 ghost use Rattle.pf_top.specs.Asked.{beside, names, first_words, command_of};
 ghost use Rattle.pf_top.specs.Words.{word_bytes, command_of_request, fraction_of_parts};
 
 use crate::commands::at::At;
+use crate::commands::trees::Trees;
 use pf_lines::whole;
 use pf_rat::Rat;
 
@@ -19,17 +21,36 @@ pub enum Name {
     Curve,
     /// The least ratio of a closure.
     Closure,
+    /// The densest subgraph.
+    Densest,
+    /// The strength of a graph.
+    Strength,
+    /// The best selection at every price.
+    Select,
+    /// The principal partition of a graph.
+    Partition,
+}
+
+/// What words ask for of a text.
+#[derive(Drop)]
+pub enum TextRequest {
+    /// The answer at one parameter.
+    At(At),
+    /// So many trees, or what forbids them.
+    Trees(Trees),
+    /// The answer to the job of this name.
+    Answer(Name),
+    /// Whether a text certifies an answer to it.
+    Check(Name),
 }
 
 /// What words ask for.
 #[derive(Drop)]
 pub enum Request {
-    /// The answer at one parameter.
-    At(At),
-    /// The answer to the job of this name.
-    Answer(Name),
-    /// Whether a text certifies an answer to it.
-    Check(Name),
+    /// Something of a text.
+    Text(TextRequest),
+    /// The summary of the network that this seed draws. No text is read.
+    Generate(u64),
 }
 
 const BILLION: i64 = 1_000_000_000;
@@ -76,6 +97,50 @@ fn read_parameter(bytes: &[u8]) -> Option<Rat>
     }
 }
 
+// Whether the byte is an ASCII digit.
+fn is_digit(byte: u8) -> bool
+    ensures { result ≡ is_digit byte }
+{
+    (48..=57).contains(&byte)
+}
+
+// The number with one more digit behind it, if it is at most the greatest.
+fn with_digit(number: u64, byte: u8, most: u64) -> Option<u64>
+    requires { is_digit byte ≡ true }
+    ensures { natural_within 0 most (Some (10 * number + (byte - 48))) ≡ result }
+{
+    let next = u128::from(number) * 10 + u128::from(byte - 48);
+    if next > u128::from(most) {
+        return None;
+    }
+    Some(next as u64)
+}
+
+// The number of one or more digits, if it lies from the least to the greatest.
+fn natural(bytes: &[u8], least: u64, most: u64) -> Option<u64>
+    ensures value { natural_within least most (natural_of bytes.now) ≡ result }
+    ensures low { IfSome result (λ n. least ≤ n) }
+    ensures high { IfSome result (λ n. n ≤ most) }
+{
+    if bytes.is_empty() {
+        return None;
+    }
+    let mut number: u64 = 0;
+    'digits: for byte in bytes {
+        if !is_digit(*byte) {
+            return None;
+        }
+        let Some(next) = with_digit(number, *byte, most) else {
+            return None;
+        };
+        number = next;
+    }
+    if number < least {
+        return None;
+    }
+    Some(number)
+}
+
 // The job of this name.
 fn name_of(word: &[u8]) -> Option<Name>
     ensures { beside names word.now ≡ result }
@@ -86,35 +151,67 @@ fn name_of(word: &[u8]) -> Option<Name>
     if word == b"closure".as_slice() {
         return Some(Name::Closure);
     }
+    if word == b"densest".as_slice() {
+        return Some(Name::Densest);
+    }
+    if word == b"strength".as_slice() {
+        return Some(Name::Strength);
+    }
+    if word == b"select".as_slice() {
+        return Some(Name::Select);
+    }
+    if word == b"partition".as_slice() {
+        return Some(Name::Partition);
+    }
     None
 }
 
 // What one word asks for, if it has the form of a command.
 fn one_word(first: &[u8]) -> Option<Request>
-    ensures { option_map (λ name. answer (named name)) (beside names first.now) ≡ option_map command_of_request result }
+    ensures { option_map (λ name. reads (answer (named name))) (beside names first.now) ≡ option_map command_of_request result }
 {
     match name_of(first) {
-        Some(name) => Some(Request::Answer(name)),
+        Some(name) => Some(Request::Text(TextRequest::Answer(name))),
         None => None,
     }
 }
 
 // What `at` asks for with this second word, if it is a parameter.
 fn at_word(second: &[u8]) -> Option<Request>
-    ensures { option_map (λ x. answer (at x)) (parameter_of second.now) ≡ option_map command_of_request result }
+    ensures { option_map (λ x. reads (answer (at x))) (parameter_of second.now) ≡ option_map command_of_request result }
 {
     match read_parameter(second) {
-        Some(parameter) => Some(Request::At(At { parameter })),
+        Some(parameter) => Some(Request::Text(TextRequest::At(At { parameter }))),
         None => None,
     }
 }
 
 // What `check` asks for with this second word, if it names a job with a certificate.
 fn check_word(second: &[u8]) -> Option<Request>
-    ensures { option_map (λ name. check (named name)) (beside names second.now) ≡ option_map command_of_request result }
+    ensures { option_map (λ name. reads (check (named name))) (beside names second.now) ≡ option_map command_of_request result }
 {
     match name_of(second) {
-        Some(name) => Some(Request::Check(name)),
+        Some(name) => Some(Request::Text(TextRequest::Check(name))),
+        None => None,
+    }
+}
+
+// What `trees` asks for with this second word, if it is a number of trees.
+fn trees_word(second: &[u8]) -> Option<Request>
+    ensures { option_map (λ k. reads (answer (trees k))) (natural_within 1 500 (natural_of second.now)) ≡ option_map command_of_request result }
+{
+    match natural(second, 1, 500) {
+        Some(count) => Some(Request::Text(TextRequest::Trees(Trees::new(count as u32)))),
+        None => None,
+    }
+}
+
+// What `generate` asks for with this second word, if it is a seed.
+fn generate_word(second: &[u8]) -> Option<Request>
+    ensures { option_map draws (natural_within 0 (2 ^ 64 - 1) (natural_of second.now)) ≡ option_map command_of_request result }
+{
+    match natural(second, 0, u64::MAX) {
+        Some(seed) => Some(Request::Generate(seed)),
         None => None,
     }
 }
@@ -128,6 +225,12 @@ fn two_words(first: &[u8], second: &[u8]) -> Option<Request>
     }
     if first == b"check".as_slice() {
         return check_word(second);
+    }
+    if first == b"trees".as_slice() {
+        return trees_word(second);
+    }
+    if first == b"generate".as_slice() {
+        return generate_word(second);
     }
     None
 }

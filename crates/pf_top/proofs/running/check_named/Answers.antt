@@ -5,3 +5,15 @@ returns-in-Curve g c = rw c.in-Curve.is c.check.ensures
 
 pub returns-in-Closure : goal.returns-in-Closure
 returns-in-Closure g c = rw c.in-Closure.is c.check-in-Closure.ensures
+
+pub returns-in-Densest : goal.returns-in-Densest
+returns-in-Densest g c = rw c.in-Densest.is c.check-in-Densest.ensures
+
+pub returns-in-Strength : goal.returns-in-Strength
+returns-in-Strength g c = rw c.in-Strength.is c.check-in-Strength.ensures
+
+pub returns-in-Select : goal.returns-in-Select
+returns-in-Select g c = rw c.in-Select.is c.check-in-Select.ensures
+
+pub returns-in-Partition : goal.returns-in-Partition
+returns-in-Partition g c = rw c.in-Partition.is c.check-in-Partition.ensures

@@ -10,7 +10,7 @@ returns-clause-run g c = elim c.match-read_words.branch [
   | in-None w ↦ rw (w.source-is, w.out-is, w.status-is)
       (run_usage g.S.Source c.args.source.now g.O.Sink c.args.out.now (word_bytes c.args.words.now) (c.read_words.ensures ∙ ap (option_map command_of_request) w.in-None.is))
   | in-Some w ↦ rw (w.source-is, w.out-is, w.status-is)
-      (w.work-status.ensures (word_bytes c.args.words.now) (c.read_words.ensures ∙ ap (option_map command_of_request) w.in-Some.is))
+      (w.obey-status.ensures (word_bytes c.args.words.now) (c.read_words.ensures ∙ ap (option_map command_of_request) w.in-Some.is))
 ]
 
 pub returns-clause-usage : goal.returns-clause-usage
