@@ -3,8 +3,8 @@ ghost use Rattle.std.specs.Prelude.{◌<◌, length};
 
 use super::*;
 use crate::texts::{
-    DEAR, DEAR_DENSEST, FIVE, FIVE_CERTIFICATE, LIGHT, LIGHT_AND_HEAVY, LIGHT_AND_HEAVY_PARTITION,
-    LIGHT_RATIO, PARTS, PARTS_SELECT, STEEP, STEEP_CURVE, THREE, TRIANGLE, TRIANGLE_STRENGTH,
+    DEAR, DEAR_DENSEST, FIVE, FIVE_CERTIFICATE, LIGHT, LIGHT_AND_HEAVY, LIGHT_RATIO, PARTS,
+    PARTS_SELECT, STEEP, STEEP_CURVE, THREE, TRIANGLE, TRIANGLE_PARTITION, TRIANGLE_STRENGTH,
     TWO_PAIRS, TWO_PAIRS_STRENGTH,
 };
 use pf_gen::net_text;
@@ -21,7 +21,7 @@ const CERTIFIED: [(&str, &[u8], &[u8]); 8] = [
     ("strength", TRIANGLE, TRIANGLE_STRENGTH),
     ("strength", TWO_PAIRS, TWO_PAIRS_STRENGTH),
     ("select", PARTS, PARTS_SELECT),
-    ("partition", LIGHT_AND_HEAVY, LIGHT_AND_HEAVY_PARTITION),
+    ("partition", TRIANGLE, TRIANGLE_PARTITION),
 ];
 
 // The same, and a text that certifies nothing: a flow that leaves a node out, a breakpoint left out, nothing, and a side

@@ -44,6 +44,10 @@ pub const PARTS: &[u8] =
 pub const PARTS_SELECT: &[u8] =
     b"o select\nk 2\ns 0 111\nb 1 2 1 2\ns 1 001\nb 2 4 1 0\ns 2 000\nf 1 4 6 2\nf 2 0 10 4\nend\n";
 
+/// Its principal partition, in which every number is determined.
+pub const TRIANGLE_PARTITION: &[u8] =
+    b"o partition\nk 1\ns 0 1 1 1\nb 1 3 2 0\ns 1 1 2 3\ny 1 2 2 2\nr 1 1 0 1 0\nr 1 2 2 0 1\nr 1 3 1 2 2\nend\n";
+
 /// A graph that is not connected.
 pub const TWO_PAIRS: &[u8] = b"p graph 4 2\ne 1 2 1\ne 3 4 1\nend\n";
 
