@@ -1,0 +1,8 @@
+pub mod Places
+pub mod Lifts
+pub mod Choice
+pub mod Smallest
+pub mod Openings
+pub mod Opened
+pub mod CoreLemmas
+pub mod TestedSides
