@@ -1,0 +1,9 @@
+pub mod Counting
+pub mod OneFair
+pub mod Soundness
+pub mod CheckLemmas
+pub mod NetArcs
+pub mod NetBuilt
+pub mod ReadOff
+pub mod Solved
+pub mod Examples

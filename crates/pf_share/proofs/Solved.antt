@@ -1,0 +1,285 @@
+-- The network's arcs and what is read off its curve, one item after the other, and that the whole is right.
+use Rattle.std.proofs.Common.{◌≡◌, ℕ, zero, suc, ◌+◌, ◌-◌, ◌<◌, ◌≤◌, List, [], ◌∷◌, ◌++◌, length, get_or, take, refl, Bool, arith, ap, sym, ◌∙◌, inl, inr, subst, add-one, zero-add}
+use Rattle.std.specs.Prelude.{ℤ, pos, All}
+use Rattle.std.proofs.lemmas.Int.{ints}
+use Rattle.std.proofs.lemmas.Bool.{cases_lt}
+use Rattle.std.proofs.lemmas.Grind.{common_steps}
+use Rattle.std.proofs.lemmas.List.{length_push, get_or_push, get_or_append_left, get_or_default}
+use Rattle.std.proofs.lemmas.List.Elements.{All-get_or}
+use Rattle.std.proofs.Math.Nat.{eq-one_of_dvd-one}
+use Rattle.pf_model.specs.declared.AffineArc.{AffineArc}
+use Rattle.pf_model.specs.Fraction.{Fraction, IsLowest, lowest}
+use Rattle.pf_model.specs.Answer.{Curve, IsFractionShape, IsWithinSize, IsFlowShape, IsCurveShape}
+use Rattle.pf_model.specs.Limits.{capacity_bound}
+use Rattle.pf_model.specs.Cut.{at_arc}
+use Rattle.pf_model.specs.Network.{Network}
+use Rattle.pf_model.specs.Curve.{IsCurve, CertifiesCurve, point_at, flow_at}
+use Rattle.pf_model.proofs.Lowest.{same_fraction, lowest_stays}
+use Rattle.pf_model.proofs.Certificate.{point_is_parameter}
+use Rattle.pf_net.specs.Limits.{rising}
+use Rattle.pf_share.specs.Problem.{ShareProblem, IsShareProblem, IsBoundedSharing, no_share, tail_of, head_of}
+use Rattle.pf_share.specs.Certificate.{SharesAnswer, CertifiesShares, IsBestShares}
+use Rattle.pf_share.specs.Right.{IsSharesShape}
+use Rattle.pf_share.specs.Reduction.{flow_arc, source_arc, flow_arcs, source_arcs, highest, share_net, IsJoin, join_at, AreJoins, IsFirst, AreLevelsOf, group_of, AreGroupsOf, IsFlowOf, IsReadOff, AreFull}
+use Rattle.pf_share.proofs.NetArcs.{arcs_full}
+use Rattle.pf_share.proofs.Soundness.{certified_fair}
+use Rattle.pf_share.proofs.ReadOff.{read_off_certifies}
+
+-- the arcs, one after the other
+
+take_whole : {X : Type 0} (xs : List X) (i : ℕ) → length xs ≤ i → take i xs ≡ xs
+take_whole xs i h = grind (arith, common_steps)
+
+flows_suc : (ends : List (ℕ × ℕ)) (cs : List ℤ) (k : ℕ) → length cs ≡ length ends → k < length ends →
+    flow_arcs (take (suc k) ends) (take (suc k) cs) ≡ flow_arcs (take k ends) (take k cs) ++ (flow_arc (get_or ends k (0, 0)) (at_arc cs k) ∷ [])
+flows_suc [] cs k full low = absurd (omega (arith, low))
+flows_suc (arc ∷ ends) [] k full low = absurd (omega (arith, full))
+flows_suc (arc ∷ ends) (c ∷ cs) zero full low = refl
+flows_suc (arc ∷ ends) (c ∷ cs) (suc k) full low = ap (λ l. flow_arc arc c ∷ l) (flows_suc ends cs k (omega (arith, full)) (omega (arith, low)))
+
+sources_suc : (s v : ℕ) (ws : List ℤ) (k : ℕ) → k < length ws →
+    source_arcs s v (take (suc k) ws) ≡ source_arcs s v (take k ws) ++ (source_arc s (v + k) (at_arc ws k) ∷ [])
+sources_suc s v [] k low = absurd (omega (arith, low))
+sources_suc s v (w ∷ ws) zero low = let e : v ≡ v + 0 = omega arith in ap (λ n. source_arc s n w ∷ []) e
+sources_suc s v (w ∷ ws) (suc k) low =
+    let e : suc v + k ≡ v + suc k = omega arith in
+    ap (λ l. source_arc s v w ∷ l) (sources_suc s (suc v) ws k (omega (arith, low))
+    ∙ ap (λ n. source_arcs s (suc v) (take k ws) ++ (source_arc s n (at_arc ws k) ∷ [])) e)
+
+pub pushed_flow : (p : ShareProblem) (k : ℕ) (old new : List AffineArc) (arc : AffineArc) → length p.capacities ≡ length p.ends → k < length p.ends →
+    old ≡ flow_arcs (take k p.ends) (take k p.capacities) → new ≡ old ++ (arc ∷ []) → arc ≡ flow_arc (tail_of p k, head_of p k) (at_arc p.capacities k) →
+    new ≡ flow_arcs (take (k + 1) p.ends) (take (k + 1) p.capacities)
+pushed_flow p k old new arc full low before step e =
+    step ∙ ap (λ l. l ++ (arc ∷ [])) before ∙ ap (λ x. flow_arcs (take k p.ends) (take k p.capacities) ++ (x ∷ [])) e
+    ∙ sym (flows_suc p.ends p.capacities k full low) ∙ sym (ap (λ n. flow_arcs (take n p.ends) (take n p.capacities)) (add-one k))
+
+pub all_flows : (p : ShareProblem) (k : ℕ) (arcs : List AffineArc) → length p.capacities ≡ length p.ends → length p.ends ≤ k →
+    arcs ≡ flow_arcs (take k p.ends) (take k p.capacities) → arcs ≡ flow_arcs p.ends p.capacities
+all_flows p k arcs full done e =
+    e ∙ ap (λ l. flow_arcs l (take k p.capacities)) (take_whole p.ends k done)
+    ∙ ap (flow_arcs p.ends) (take_whole p.capacities k (omega (arith, full, done)))
+
+one_more : (xs ys : List AffineArc) (arc : AffineArc) → (xs ++ ys) ++ (arc ∷ []) ≡ xs ++ (ys ++ (arc ∷ []))
+one_more [] ys arc = refl
+one_more (x ∷ xs) ys arc = ap (λ l. x ∷ l) (one_more xs ys arc)
+
+pub pushed_source : (p : ShareProblem) (v : ℕ) (start old new : List AffineArc) (arc : AffineArc) → length p.weights ≡ p.nodes → v < p.nodes →
+    old ≡ start ++ source_arcs p.nodes 0 (take v p.weights) → new ≡ old ++ (arc ∷ []) → arc ≡ source_arc p.nodes v (at_arc p.weights v) →
+    new ≡ start ++ source_arcs p.nodes 0 (take (v + 1) p.weights)
+pushed_source p v start old new arc full low before step e =
+    let here : arc ≡ source_arc p.nodes (0 + v) (at_arc p.weights v) = e ∙ ap (λ n. source_arc p.nodes n (at_arc p.weights v)) (sym (zero-add v)) in
+    step ∙ ap (λ l. l ++ (arc ∷ [])) before ∙ one_more start (source_arcs p.nodes 0 (take v p.weights)) arc
+    ∙ ap (λ x. start ++ (source_arcs p.nodes 0 (take v p.weights) ++ (x ∷ []))) here
+    ∙ sym (ap (λ l. start ++ l) (sources_suc p.nodes 0 p.weights v (omega (arith, full, low))))
+    ∙ sym (ap (λ n. start ++ source_arcs p.nodes 0 (take n p.weights)) (add-one v))
+
+pub all_sources : (p : ShareProblem) (v : ℕ) (start arcs : List AffineArc) → length p.weights ≡ p.nodes → p.nodes ≤ v →
+    arcs ≡ start ++ source_arcs p.nodes 0 (take v p.weights) → arcs ≡ start ++ source_arcs p.nodes 0 p.weights
+all_sources p v start arcs full done e = e ∙ ap (λ l. start ++ source_arcs p.nodes 0 l) (take_whole p.weights v (omega (arith, full, done)))
+
+-- a whole number as a fraction
+whole_lowest : (n : ℤ) → IsLowest (record { p = n; q = pos 1 })
+whole_lowest n = record { alone = λ d h l. eq-one_of_dvd-one l }
+
+pub whole_is : (n : ℤ) (x : Fraction) → x ≡ lowest (record { p = n; q = pos 1 }) → x ≡ record { p = n; q = pos 1 }
+whole_is n x e = e ∙ lowest_stays (record { p = n; q = pos 1 }) (omega (arith, ints)) (whole_lowest n)
+
+-- the network is made of these parts
+same_parts : (n n' s s' t t' : ℕ) (l l' h h' : Fraction) (xs xs' : List AffineArc) → n ≡ n' → s ≡ s' → t ≡ t' → l ≡ l' → h ≡ h' → xs ≡ xs' →
+    rising n s t l h xs ≡ rising n' s' t' l' h' xs'
+same_parts n n' s s' t t' l l' h h' xs xs' a b c d e f = rw (a, b, c, d, e, f) refl
+
+pub same_net : (p : ShareProblem) (nodes sink : ℕ) (low high : Fraction) (first second : List AffineArc) → nodes ≡ p.nodes → sink ≡ p.sink → low ≡ no_share → high ≡ highest →
+    first ≡ flow_arcs p.ends p.capacities → second ≡ first ++ source_arcs p.nodes 0 p.weights → rising (nodes + 1) nodes sink low high second ≡ share_net p
+same_net p nodes sink low high first second n t l h a b =
+    same_parts (nodes + 1) (suc p.nodes) nodes p.nodes sink p.sink low no_share high highest second (share_net p).arcs
+    (add-one nodes ∙ ap suc n) n t l h (b ∙ ap (λ xs. xs ++ source_arcs p.nodes 0 p.weights) a)
+
+-- one item more of a list
+pub item_more : {X : Type 0} (old new : List X) (x d : X) (j : ℕ) (f : ℕ → X) → length old ≡ j → new ≡ old ++ x ∷ [] → ((k : ℕ) → k < j → get_or old k d ≡ f k) →
+    x ≡ f j → (k : ℕ) → k < j + 1 → get_or new k d ≡ f k
+item_more old new x d j f full step before here k low = elim (cases_lt k j) [
+  | inl less ↦ ap (λ l. get_or l k d) step ∙ get_or_append_left old (x ∷ []) d k (omega (arith, less, full)) ∙ before k less
+  | inr most ↦
+      let e : j ≡ k = omega (arith, low, most) in
+      ap (λ l. get_or l k d) step ∙ get_or_push old x d k (full ∙ e) ∙ here ∙ ap f e
+]
+
+pub more_full : {X : Type 0} (old new : List X) (x : X) (j : ℕ) → length old ≡ j → new ≡ old ++ x ∷ [] → length new ≡ j + 1
+more_full old new x j full step = ap length step ∙ length_push old x ∙ ap (λ n. n + 1) full
+
+pub join_more : (cuts : List (List Bool)) (old new : List ℕ) (v j : ℕ) → AreJoins cuts old v → new ≡ old ++ j ∷ [] → IsJoin cuts v j → AreJoins cuts new (v + 1)
+join_more cuts old new v j a step here =
+    let full = a.full in
+    record {
+      full = more_full old new j v full step;
+      each = λ u low. elim (cases_lt u v) [
+        | inl less ↦
+            let e : join_at new u ≡ join_at old u = ap (λ l. join_at l u) step ∙ get_or_append_left old (j ∷ []) 0 u (omega (arith, less, full)) in
+            subst (IsJoin cuts u) (sym e) (a.each u less)
+        | inr most ↦
+            let same : v ≡ u = omega (arith, low, most) in
+            let e : join_at new u ≡ j = ap (λ l. join_at l u) step ∙ get_or_push old j 0 u (full ∙ same) in
+            let P : ℕ → Type 0 = λ n. IsJoin cuts n j in
+            subst (IsJoin cuts u) (sym e) (subst P same here)
+      ];
+    }
+
+pub level_more : (p : ShareProblem) (points shown old new : List Fraction) (first j : ℕ) (x : Fraction) → AreLevelsOf p points old first j → shown ≡ points →
+    first + j < length shown → x ≡ get_or shown (first + j) x → new ≡ old ++ x ∷ [] → AreLevelsOf p points new first (j + 1)
+level_more p points shown old new first j x a same low is step =
+    let here : x ≡ point_at (share_net p) points (first + j) =
+    is ∙ get_or_default shown (first + j) x (share_net p).low low ∙ ap (λ (l : List Fraction). point_at (share_net p) l (first + j)) same in
+    record {
+      full = more_full old new x j a.full step;
+      each = item_more old new x no_share j (λ k. point_at (share_net p) points (first + k)) a.full step a.each here;
+    }
+
+pub group_more : (joins : List ℕ) (first cuts : ℕ) (old new : List ℤ) (v g : ℕ) (x : ℤ) → AreGroupsOf joins first cuts old v → g ≡ group_of first cuts (join_at joins v) →
+    x ≡ pos g → new ≡ old ++ x ∷ [] → AreGroupsOf joins first cuts new (v + 1)
+group_more joins first cuts old new v g x a e is step = record {
+  full = more_full old new x v a.full step;
+  each = item_more old new x (pos 0) v (λ u. pos (group_of first cuts (join_at joins u))) a.full step a.each (is ∙ ap pos e);
+}
+
+pub number_more : (p : ShareProblem) (flows : List (List ℤ)) (joins : List ℕ) (old new : List ℤ) (i : ℕ) (x : ℤ) → IsFlowOf p flows joins old i →
+    x ≡ at_arc (flow_at flows (join_at joins (tail_of p i))) i → new ≡ old ++ x ∷ [] → IsFlowOf p flows joins new (i + 1)
+number_more p flows joins old new i x a e step = record {
+  full = more_full old new x i a.full step;
+  each = item_more old new x (pos 0) i (λ k. at_arc (flow_at flows (join_at joins (tail_of p k))) k) a.full step a.each e;
+}
+
+pub flows_full : (p : ShareProblem) (net : Network) (curve : Curve) → IsShareProblem p → net ≡ share_net p → IsCurveShape net curve → AreFull (length p.ends) curve.flows
+flows_full p net curve h same s =
+    let P : Network → Type 0 = λ n. All (IsFlowShape n) curve.flows in
+    let all = subst P same s.flows in
+    let many = arcs_full p h in
+    record {
+      each = λ j low. let full = (All-get_or (IsFlowShape (share_net p)) curve.flows j [] low all).full in omega (arith, full, many);
+      sized = λ j low i less.
+          let shape = All-get_or (IsFlowShape (share_net p)) curve.flows j [] low all in
+          let full = shape.full in
+          All-get_or (IsWithinSize capacity_bound) (flow_at curve.flows j) i (pos 0) (omega (arith, full, many, less)) shape.each;
+    }
+
+-- the last point is a whole number
+last_unit : (p : ShareProblem) (curve : Curve) → IsCurve (share_net p) curve.points curve.cuts → IsCurveShape (share_net p) curve →
+    (point_at (share_net p) curve.points (length curve.cuts)).q ≡ pos 1
+last_unit p curve v s =
+    let many = s.count in
+    let x = point_at (share_net p) curve.points (length curve.cuts) in
+    let shape = All-get_or IsFractionShape curve.points (length curve.cuts) (share_net p).low (omega (arith, many)) s.points in
+    ap (λ (y : Fraction). y.q)
+    (same_fraction x highest (point_is_parameter (share_net p) curve.points curve.cuts v.division (length curve.cuts) (omega arith)) (omega (arith, ints))
+    shape.lowest (whole_lowest (pos 10000000000001)) v.division.high)
+
+read_off_shape : (p : ShareProblem) (curve : Curve) (a : SharesAnswer) → IsShareProblem p → IsCurveShape (share_net p) curve → IsReadOff p curve a → CertifiesShares p a →
+    IsSharesShape p a
+read_off_shape p curve a h s r c =
+    let many = s.count in
+    let flows_many = s.flow_count in
+    let count = r.count in
+    let full = flows_full p (share_net p) curve h refl s in
+    record {
+      levels = λ k d low.
+          subst IsFractionShape (sym (get_or_default a.levels k d no_share low ∙ r.levels.each k low))
+          (All-get_or IsFractionShape curve.points (r.first + k) (share_net p).low (omega (arith, count, many, low)) s.points);
+      groups = record { full = c.groups.full; low = c.groups.low; high = c.groups.high; sources = c.groups.sources };
+      flow_full = r.flow.full;
+      flow = λ i d low.
+          let wide = r.flow.full in
+          let there : i < length p.ends = omega (arith, low, wide) in
+          let within = (r.joins_are.each (tail_of p i) (h.tails i there)).within in
+          subst (IsWithinSize capacity_bound) (sym (get_or_default a.flow i d (pos 0) low ∙ r.flow.each i there))
+          (full.sized (join_at r.joins (tail_of p i)) (omega (arith, within, many, flows_many)) i there);
+    }
+
+pub record IsSolved (p : ShareProblem) (a : SharesAnswer) : Type 0 where
+  pub best : IsBestShares p a
+  pub certificate : CertifiesShares p a
+  pub shape : IsSharesShape p a
+
+pub solved : (p : ShareProblem) (net : Network) (curve : Curve) (a : SharesAnswer) (joins : List ℕ) (first count : ℕ) → IsBoundedSharing p → net ≡ share_net p →
+    IsCurve net curve.points curve.cuts → CertifiesCurve net curve.points curve.cuts curve.flows → IsCurveShape net curve → first + count ≡ length curve.cuts →
+    AreJoins curve.cuts joins p.nodes → IsFirst joins first → AreLevelsOf p curve.points a.levels first count → AreGroupsOf joins first (length curve.cuts) a.groups p.nodes →
+    IsFlowOf p curve.flows joins a.flow (length p.ends) → IsSolved p a
+solved p net curve a joins first count b same v c s many j f levels groups flow =
+    let P : Network → Type 0 = λ n. IsCurve n curve.points curve.cuts in
+    let Q : Network → Type 0 = λ n. CertifiesCurve n curve.points curve.cuts curve.flows in
+    let R : Network → Type 0 = λ n. IsCurveShape n curve in
+    let L : ℕ → Type 0 = λ n. AreLevelsOf p curve.points a.levels first n in
+    let full = levels.full in
+    let r : IsReadOff p curve a = record {
+      joins = joins;
+      first = first;
+      joins_are = j;
+      first_is = f;
+      levels = subst L (sym full) levels;
+      count = omega (arith, full, many);
+      groups = groups;
+      flow = flow;
+    } in
+    let shape = subst R same s in
+    let curve_is = subst P same v in
+    let certificate = read_off_certifies p curve a b curve_is (subst Q same c) (last_unit p curve curve_is shape) r in
+    record {
+      best = certified_fair p a b.problem certificate;
+      certificate = certificate;
+      shape = read_off_shape p curve a b.problem shape r certificate;
+    }
+
+-- from the parts that the code has
+pub first_least : (joins : List ℕ) (first : ℕ) → IsFirst joins first → (v : ℕ) → v < length joins → first ≤ join_at joins v
+first_least joins first f v low = elim f [
+  | inl zero_is ↦ (let e = zero_is.0 in omega (arith, e))
+  | inr one_is ↦
+      (let e = one_is.0 in
+      let none = one_is.1.each v low in
+      let some : 1 ≤ join_at joins v = omega (arith, none) in
+      omega (arith, e, some))
+]
+
+first_small : (joins : List ℕ) (first : ℕ) → IsFirst joins first → first ≤ 1
+first_small joins first f = elim f [
+  | inl zero_is ↦ (let e = zero_is.0 in omega (arith, e))
+  | inr one_is ↦ (let e = one_is.0 in omega (arith, e))
+]
+
+pub joins_within : (p : ShareProblem) (curve : Curve) (points : List Fraction) (joins slice : List ℕ) → AreJoins curve.cuts joins p.nodes → slice ≡ joins →
+    points ≡ curve.points → length curve.points ≡ length curve.cuts + 1 → (v : ℕ) → v < length slice → join_at slice v ≤ length points - 1
+joins_within p curve points joins slice j e same count =
+    let P : List ℕ → Type 0 = λ l. (v : ℕ) → v < length l → join_at l v ≤ length points - 1 in
+    subst P (sym e) (λ v low.
+    let full = j.full in
+    let within = (j.each v (omega (arith, low, full))).within in
+    let many = ap length same in
+    omega (arith, within, many, count))
+
+pub joins_least : (joins slice slice' : List ℕ) (first : ℕ) → slice ≡ joins → slice' ≡ joins → IsFirst slice first → (v : ℕ) → v < length slice' → first ≤ join_at slice' v
+joins_least joins slice slice' first e e' f =
+    let P : List ℕ → Type 0 = λ l. IsFirst l first in
+    first_least slice' first (subst P (e ∙ sym e') f)
+
+abbrev pub answer_of : List Fraction → List ℤ → List ℤ → SharesAnswer
+answer_of levels groups flow = record { levels = levels; groups = groups; flow = flow }
+
+pub finished : (p : ShareProblem) (net : Network) (curve : Curve) (a : SharesAnswer) (levels points : List Fraction) (groups flow : List ℤ) (joins s s' s'' : List ℕ) (first : ℕ) →
+    IsBoundedSharing p → net ≡ share_net p → IsCurve net curve.points curve.cuts → CertifiesCurve net curve.points curve.cuts curve.flows → IsCurveShape net curve →
+    points ≡ curve.points → AreJoins curve.cuts joins p.nodes → s ≡ joins → s' ≡ joins → s'' ≡ joins → IsFirst s first →
+    AreLevelsOf p curve.points levels first ((length points - 1) - first) → AreGroupsOf s' first (length points - 1) groups (length s') →
+    IsFlowOf p curve.flows s'' flow (length p.ends) → a ≡ answer_of levels groups flow → IsSolved p a
+finished p net curve a levels points groups flow joins s s' s'' first b same v c shape shown j e e' e'' f l g n is =
+    let some = shape.some in
+    let count = shape.count in
+    let many = ap length shown in
+    let small = first_small s first f in
+    let cuts : length points - 1 ≡ length curve.cuts = omega (arith, many, count) in
+    let total : first + ((length points - 1) - first) ≡ length curve.cuts = omega (arith, cuts, small, some) in
+    let F : List ℕ → Type 0 = λ k. IsFirst k first in
+    let G : List ℕ → Type 0 = λ k. AreGroupsOf k first (length points - 1) groups (length k) in
+    let H : ℕ → Type 0 = λ k. AreGroupsOf joins first k groups (length joins) in
+    let K : ℕ → Type 0 = λ k. AreGroupsOf joins first (length curve.cuts) groups k in
+    let N : List ℕ → Type 0 = λ k. IsFlowOf p curve.flows k flow (length p.ends) in
+    subst (IsSolved p) (sym is)
+    (solved p net curve (answer_of levels groups flow) joins first ((length points - 1) - first) b same v c shape total j (subst F e f) l
+    (subst K j.full (subst H cuts (subst G e' g))) (subst N e'' n))

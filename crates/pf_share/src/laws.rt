@@ -1,0 +1,30 @@
+//! What holds of fair shares, each law as the contract of a function that does nothing.
+
+ghost use Rattle.pf_share.specs.Worked.{NarrowArc, NarrowShares, OneLevel, NotFull, NoWayOut, Thirds};
+ghost use Rattle.pf_share.specs.Laws.{CertificateImpliesFair, CurveIsRead, OneFairVector};
+
+/// What certifies shares proves them fair.
+pub fn certificate_implies_fair()
+    ensures { CertificateImpliesFair }
+{}
+
+/// At most one vector of shares is fair.
+pub fn fair_is_unique()
+    ensures { OneFairVector }
+{}
+
+/// Networks worked by hand: a source behind a narrow arc and one that takes the rest, a source with no way out, and levels in
+/// thirds. The first common level is not fair, and a number that leaves part of a full arc free certifies nothing.
+pub fn worked_networks()
+    ensures narrow { NarrowArc }
+    ensures shares { NarrowShares }
+    ensures one { OneLevel }
+    ensures free { NotFull }
+    ensures stuck { NoWayOut }
+    ensures thirds { Thirds }
+{}
+
+/// What is read off a curve of the network is certified.
+pub fn curve_is_read()
+    ensures { CurveIsRead }
+{}
