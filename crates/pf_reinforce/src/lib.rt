@@ -1,0 +1,14 @@
+//! Reinforcing a graph: what to add to the weights of its edges, at a price for each, so that its strength is at least a level,
+//! at the least cost (Cunningham 1985).
+#![tactic(auto)]
+
+mod added;
+pub mod laws;
+mod raising;
+mod reinforcement;
+mod sums;
+#[cfg(test)]
+mod tests;
+
+pub use added::Added;
+pub use reinforcement::Reinforcement;
