@@ -1,0 +1,36 @@
+-- What holds of layers.
+use Rattle.std.specs.Prelude.{◌≡◌, ℕ, ◌<◌, ℤ, List, length}
+use Rattle.pf_model.specs.Fraction.{Fraction, IsEqual, IsLowest}
+use Rattle.pf_graph.specs.WeightedGraph.{WeightedGraph, IsWeightedGraph}
+use Rattle.pf_dense.specs.Densest.{HasPositiveCosts}
+use Rattle.pf_closure.specs.Problem.{ClosureProblem, IsClosureProblem}
+use Rattle.pf_layers.specs.Layers.{level_at}
+use Rattle.pf_layers.specs.DenseLayers.{IsDenseLayers}
+use Rattle.pf_layers.specs.RatioLayers.{IsRatioLayers}
+
+-- the same layers, with equal levels
+pub record AreSameLayers (levels levels' : List Fraction) (layers layers' : List ℤ) : Type 0 where
+  pub same : layers ≡ layers'
+  pub count : length levels ≡ length levels'
+  pub equal : (j : ℕ) → j < length levels → IsEqual (level_at levels j) (level_at levels' j)
+
+pub record AreLowest (levels : List Fraction) : Type 0 where
+  pub each : (j : ℕ) → j < length levels → IsLowest (level_at levels j)
+
+-- at most one list of layers is right
+abbrev pub OneDenseLayers : Type 0
+OneDenseLayers = (g : WeightedGraph) (levels levels' : List Fraction) (layers layers' : List ℤ) → IsWeightedGraph g → HasPositiveCosts g →
+    IsDenseLayers g levels layers → IsDenseLayers g levels' layers' → AreSameLayers levels levels' layers layers'
+
+abbrev pub OneRatioLayers : Type 0
+OneRatioLayers = (p : ClosureProblem) (levels levels' : List Fraction) (layers layers' : List ℤ) → IsClosureProblem p →
+    IsRatioLayers p levels layers → IsRatioLayers p levels' layers' → AreSameLayers levels levels' layers layers'
+
+-- and one list of levels, where they are in lowest terms
+abbrev pub OneDenseLevels : Type 0
+OneDenseLevels = (g : WeightedGraph) (levels levels' : List Fraction) (layers layers' : List ℤ) → IsWeightedGraph g → HasPositiveCosts g →
+    IsDenseLayers g levels layers → IsDenseLayers g levels' layers' → AreLowest levels → AreLowest levels' → levels ≡ levels'
+
+abbrev pub OneRatioLevels : Type 0
+OneRatioLevels = (p : ClosureProblem) (levels levels' : List Fraction) (layers layers' : List ℤ) → IsClosureProblem p →
+    IsRatioLayers p levels layers → IsRatioLayers p levels' layers' → AreLowest levels → AreLowest levels' → levels ≡ levels'

@@ -1,0 +1,21 @@
+//! What holds of layers, each law as the contract of a function that does nothing.
+
+ghost use Rattle.pf_layers.specs.Worked.{EdgesNumbers, EdgesForgotten, BareLayers, ItemNumbers};
+ghost use Rattle.pf_layers.specs.Laws.{OneDenseLayers, OneRatioLayers, OneDenseLevels, OneRatioLevels};
+
+/// At most one list of layers is right, over a graph and over items. Its levels are the same fractions where they are in lowest terms.
+pub fn layers_are_unique()
+    ensures dense { OneDenseLayers }
+    ensures ratio { OneRatioLayers }
+    ensures dense_levels { OneDenseLevels }
+    ensures ratio_levels { OneRatioLevels }
+{}
+
+/// Layers worked by hand: what each layer of three edges in a row brings and costs, and that the second one cannot do without the edge to
+/// the first; three vertices without edges; two items of which the first needs the second.
+pub fn worked_layers()
+    ensures numbers { EdgesNumbers }
+    ensures forgotten { EdgesForgotten }
+    ensures bare { BareLayers }
+    ensures items { ItemNumbers }
+{}
