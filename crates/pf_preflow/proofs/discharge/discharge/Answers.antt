@@ -9,14 +9,14 @@ use mir.Syntax.{w128}
 
 pub discharge-init : goal.discharge-init
 discharge-init g c =
-    let fresh = c.relabel_all.ensures.state in
+    let fresh = c.refresh.ensures.state in
     let full = fresh.excess.full in
     record {
       state = fresh;
       queue = omega arith;
       active = λ h. c.next-v.ensures.active (omega (arith, full, h));
       none = λ h u low. c.next-v.ensures.none (omega (arith, full, h)) u (omega (arith, full, low));
-      counted = c.relabel_all.ensures.counted c.args.labels.now c.args.steps.now (counted_none c.args.labels.now c.args.steps.now);
+      counted = c.refresh.ensures.counted c.args.labels.now c.args.steps.now (counted_none c.args.labels.now c.args.steps.now);
     }
 
 pub fitting-amount-requires-clause-caps : goal.fitting-amount-requires-clause-caps
