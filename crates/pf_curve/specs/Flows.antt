@@ -6,6 +6,16 @@ use Rattle.pf_model.specs.Network.{Network, network_at}
 use Rattle.pf_model.specs.Curve.{point_at, flow_at}
 use Rattle.pf_model.specs.Answer.{IsFlowShape}
 
+-- a greatest flow at a parameter
+pub record IsRow (net : Network) (x : Fraction) (flow : List ℤ) : Type 0 where
+  pub greatest : IsGreatest (network_at net x) flow
+  pub shape : IsFlowShape net flow
+
+-- so many rows, each with a greatest flow at its point
+pub record AreFilled (net : Network) (points : List Fraction) (rows : ℕ) (flows : List (List ℤ)) : Type 0 where
+  pub count : length flows ≡ rows
+  pub each : (j : ℕ) → j < rows → IsRow net (point_at net points j) (flow_at flows j)
+
 -- a greatest flow at each point
 pub record AreGreatest (net : Network) (points : List Fraction) (flows : List (List ℤ)) : Type 0 where
   pub count : length flows ≡ length points

@@ -1,3 +1,4 @@
+pub mod CutFunction
 pub mod Cuts
 pub mod Flows
 pub mod Finding

@@ -12,6 +12,59 @@ pub type Points = List<Rat>;
 /// A list of sides.
 pub type Sides = List<Side>;
 
+/// Points, and a cut between each and the next: the least-cut function without flows. Cuts are indexed by node.
+#[derive(Drop)]
+pub struct CutFunction {
+    points: Points,
+    cuts: Sides,
+}
+
+impl Model for CutFunction {
+    ghost use Rattle.std.specs.Prelude.{◌≡◌, ◌+◌, length};
+    ghost use Rattle.pf_curve.specs.CutFunction.{CutFunction};
+
+    ghost Value = { CutFunction };
+
+    ghost view = { λ c. record { points = c.points; cuts = c.cuts } };
+
+    ghost invariant = { λ c. length c.points ≡ length c.cuts + 1 };
+}
+
+impl CutFunction {
+    /// The function of `K` cuts and `K + 1` points.
+    pub fn new(points: Points, cuts: Sides) -> CutFunction
+        requires { length points ≡ length cuts + 1 }
+        ensures { result ≡ record { points = points; cuts = cuts } }
+    {
+        CutFunction { points, cuts }
+    }
+
+    /// The points, from 0.
+    pub fn points(&self) -> &[Rat]
+        ensures points { result.now ≡ self.now.points }
+        ensures count { length self.now.points ≡ length self.now.cuts + 1 }
+    {
+        self.points.get()
+    }
+
+    /// The cut between point `i` and the next, from 0.
+    pub fn cut(&self, i: usize) -> &[bool]
+        requires { i < length self.now.cuts }
+        ensures { result.now ≡ cut_at self.now.cuts i }
+    {
+        self.cuts.get()[i].get()
+    }
+
+    /// The same with a flow at each point.
+    pub fn with_flows(self, flows: FlowTable) -> Curve
+        requires { length flows ≡ length self.points }
+        ensures { result ≡ record { points = self.points; cuts = self.cuts; flows = flows } }
+    {
+        let CutFunction { points, cuts } = self;
+        Curve::new(points, cuts, flows)
+    }
+}
+
 /// Points, a cut between each and the next, and a flow at each point in units of `1/q` of that point `p/q`. Cuts are
 /// indexed by node, flows by arc.
 #[derive(Drop)]

@@ -8,6 +8,7 @@ ghost use Rattle.pf_model.proofs.Certificate.{at_most_trans};
 ghost use Rattle.pf_envelope.specs.Envelope.{IsLeastAt};
 ghost use Rattle.pf_curve.specs.Cuts.{IsCutFound, IsLineOfCut, IsServed};
 
+use crate::between::{Opened, find_between};
 use crate::finder::Finder;
 use pf_envelope::Family;
 use pf_frame::NoMemory;
@@ -22,10 +23,11 @@ pub struct Cut {
     pub side: Vec<bool>,
 }
 
-/// The cuts of a network, and the room in which they are found.
+/// The cuts of a network, the room in which the first two are found, and how much was opened for the others.
 #[derive(Drop)]
 pub struct Cuts<'a> {
     pub finder: Finder<'a>,
+    pub opened: Opened,
 }
 
 // Writes the smallest least cut at a parameter of the interval, and tells its line. `side` is indexed by nodes.
@@ -87,14 +89,23 @@ impl<'a> Family for Cuts<'a> {
         &mut self,
         alloc: Global,
         at: &Rat,
-        _left: &Cut,
+        left: &Cut,
         _left_at: &Rat,
-        _right: &Cut,
+        right: &Cut,
         _right_at: &Rat,
     ) -> Result<Cut, NoMemory> {
         let q = at.q();
         prove!(q >= 1);
-        find_cut(alloc, &mut self.finder, at)
+        let net = self.finder.net();
+        find_between(
+            alloc,
+            net,
+            &mut self.opened,
+            at,
+            &left.line,
+            left.side.as_slice(),
+            right.side.as_slice(),
+        )
     }
 
     fn twin(&self, alloc: Global, m: &Cut) -> Result<Cut, NoMemory> {

@@ -1,7 +1,7 @@
 // Greatest flows and smallest least cuts of one network, with one engine and one set of working room for all of them.
-ghost use Rattle.std.specs.Prelude.{◌≡◌, length, map, IfOk};
+ghost use Rattle.std.specs.Prelude.{◌≡◌, ◌<◌, length, map, IfOk};
 ghost use Rattle.pf_model.specs.Cut.{IsSmallestLeast};
-ghost use Rattle.pf_model.specs.Flow.{IsGreatest};
+ghost use Rattle.pf_model.specs.Flow.{IsFlow, IsGreatest, IsPreflow};
 ghost use Rattle.pf_model.specs.Digraph.{network_of};
 ghost use Rattle.pf_model.specs.Network.{IsInInterval, capacity_at, network_at};
 ghost use Rattle.pf_model.specs.Curve.{IsPoint};
@@ -9,15 +9,19 @@ ghost use Rattle.pf_model.specs.Answer.{IsFlowShape, IsPointShape};
 ghost use Rattle.pf_frame.specs.Numbers.{IsBounded};
 ghost use Rattle.pf_frame.specs.Scratch.{Serves, KeepsPlaces};
 ghost use Rattle.pf_net.specs.Limits.{digraph_of};
+ghost use Rattle.pf_preflow.specs.Engine.{IsFor, KeepsEnds, network};
 ghost use Rattle.pf_curve.specs.Finding.{IsEngineOf};
 
 use crate::point::Point;
-use pf_frame::{NoMemory, Numbers, Scratch, Side, reach};
+use pf_carry::carry;
+use pf_frame::{Frame, NoMemory, Numbers, Scratch, Side, reach};
 use pf_net::Net;
 use pf_preflow::Engine;
 use pf_rat::Rat;
+use pf_steps::Steps;
 use std::alloc::Global;
-use std::marker::Model;
+use std::marker::{Brand, Model};
+use std::sync::ledger::{Blank, Ledger};
 
 /// All the room that flows and cuts of one network need. Contracts see the network; what stands in the room has no meaning
 /// between calls, and no call but `make` and `into_point` takes memory.
@@ -57,6 +61,58 @@ fn write_flow(net: &Net, at: &Rat, engine: &mut Engine, caps: &mut [i128], flow:
     let frame = net.frame();
     net.caps_at(at, caps);
     engine.find(frame, caps, flow);
+}
+
+// Makes a preflow within the capacities a greatest flow, with a counter that nobody reads.
+fn go_on<L: Ledger>(
+    engine: &mut Engine,
+    frame: &Frame,
+    caps: &[i128],
+    flow: &mut [i128],
+    blank: Blank,
+)
+    requires name { blank.name ≡ L.name }
+    requires parts { blank.parts ≡ L.parts }
+    requires some { 0 < blank.parts }
+    requires frame { IsFor engine.old frame.now }
+    requires caps { IsBounded frame.now caps.now }
+    requires flow { IsPreflow (network engine.old frame.now caps.now) flow.old }
+    ensures greatest { IsGreatest (network engine.old frame.now caps.now) flow.new }
+    ensures ends { KeepsEnds engine.old engine.new }
+{
+    let (book, share) = blank.open::<L>();
+    let mut steps = Steps::new(book, share);
+    engine.restart(frame, caps, flow);
+    engine.run(frame, caps, flow, &mut steps);
+}
+
+// Makes a flow at one parameter of the interval a greatest flow at another, and writes the capacities there.
+fn move_flow(
+    net: &Net,
+    from: &Rat,
+    to: &Rat,
+    engine: &mut Engine,
+    caps: &mut [i128],
+    flow: &mut [i128],
+)
+    requires from { IsInInterval net.now from.now }
+    requires to { IsInInterval net.now to.now }
+    requires engine { IsEngineOf net.now engine.old }
+    requires capacities { length caps.old ≡ length net.now.arcs }
+    requires flow { IsFlow (network_at net.now from.now) flow.old }
+    ensures engine { IsEngineOf net.now engine.new }
+    ensures capacities { caps.new ≡ map (capacity_at to.now) net.now.arcs }
+    ensures greatest { IsGreatest (network_at net.now to.now) flow.new }
+    ensures shape { IsFlowShape net.now flow.new }
+{
+    let frame = net.frame();
+    let s = net.source();
+    let t = net.sink();
+    let from_unit = from.q();
+    let to_unit = to.q();
+    net.caps_at(to, caps);
+    carry(frame, s, t, from_unit, to_unit, caps, flow);
+    go_on::<Brand>(engine, frame, caps, flow, Blank::new(1));
 }
 
 // Writes a greatest flow at a parameter of the interval, and the smallest least cut there.
@@ -125,6 +181,20 @@ impl<'a> Finder<'a> {
         ensures same { self.new ≡ self.old }
     {
         write_flow(self.net, at, &mut self.engine, &mut self.caps, flow);
+    }
+
+    /// Makes a flow at the parameter `from`, in units of `1/q` of it, a greatest flow at the parameter `to`, in units of `1/q` of this
+    /// one: it is carried to the other unit and capacities, and the search goes on from there. Both lie in the interval. `flow` is
+    /// indexed by arcs.
+    pub(crate) fn move_flow(&mut self, from: &Rat, to: &Rat, flow: &mut [i128])
+        requires from { IsInInterval self.old from.now }
+        requires to { IsInInterval self.old to.now }
+        requires flow { IsFlow (network_at self.old from.now) flow.old }
+        ensures greatest { IsGreatest (network_at self.old to.now) flow.new }
+        ensures shape { IsFlowShape self.old flow.new }
+        ensures same { self.new ≡ self.old }
+    {
+        move_flow(self.net, from, to, &mut self.engine, &mut self.caps, flow);
     }
 
     /// Writes the smallest least cut at a parameter of the interval. `side` is indexed by nodes.

@@ -2,6 +2,7 @@
 //! over all sides, all flows and all parameters of the interval.
 #![tactic(auto)]
 
+mod between;
 mod curve;
 mod family;
 mod finder;
@@ -11,8 +12,8 @@ mod single;
 mod tests;
 mod whole;
 
-pub use curve::{Curve, Points, Sides};
+pub use curve::{Curve, CutFunction, Points, Sides};
 pub use finder::Finder;
 pub use point::Point;
 pub use single::{AtBad, at};
-pub use whole::curve_of;
+pub use whole::{curve_of, cuts_of};

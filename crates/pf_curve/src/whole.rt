@@ -1,16 +1,16 @@
 // The whole least-cut function of a network.
-ghost use Rattle.std.specs.Prelude.{◌≡◌, ◌<◌, ◌++◌, [], ◌∷◌, ℤ, List, length, map, replicate, pos, slice_set, All, IfOk};
-ghost use Rattle.pf_model.specs.Network.{IsInInterval, network_at};
-ghost use Rattle.pf_model.specs.Curve.{IsCurve, CertifiesCurve, flow_at};
-ghost use Rattle.pf_model.specs.Flow.{IsGreatest};
-ghost use Rattle.pf_model.specs.Answer.{IsCurveShape, IsFlowShape, IsFractionShape};
-ghost use Rattle.pf_curve.specs.Flows.{AreGreatest};
+ghost use Rattle.std.specs.Prelude.{◌≡◌, ◌+◌, ◌<◌, ◌++◌, [], ◌∷◌, length, map, All, IfOk};
+ghost use Rattle.pf_model.specs.Network.{IsInInterval};
+ghost use Rattle.pf_model.specs.Curve.{IsCurve, CertifiesCurve};
+ghost use Rattle.pf_model.specs.Answer.{IsCurveShape, IsFractionShape};
+ghost use Rattle.pf_curve.specs.Flows.{AreFilled, AreGreatest, IsRow};
 
-use crate::curve::{Curve, Points, Sides};
+use crate::between::Opened;
+use crate::curve::{Curve, CutFunction, Points, Sides};
 use crate::family::{Cut, Cuts};
 use crate::finder::Finder;
 use pf_envelope::{Part, envelope};
-use pf_frame::{FlowTable, NoMemory, Side};
+use pf_frame::{FlowTable, NoMemory, Numbers, Side};
 use pf_net::Net;
 use pf_rat::Rat;
 use std::alloc::Global;
@@ -53,7 +53,7 @@ fn side_of(part: Part<Cut>) -> Vec<bool>
 }
 
 // The cut of each part.
-fn cuts_of(alloc: Global, parts: Vec<Part<Cut>>) -> Result<Sides, NoMemory>
+fn sides_of(alloc: Global, parts: Vec<Part<Cut>>) -> Result<Sides, NoMemory>
     ensures { IfOk result (λ cuts. cuts ≡ map (λ p. p.member.side.items) parts.items) }
 {
     let mut cuts = Sides::new(alloc);
@@ -63,43 +63,109 @@ fn cuts_of(alloc: Global, parts: Vec<Part<Cut>>) -> Result<Sides, NoMemory>
     Ok(cuts)
 }
 
-// Writes a greatest flow at a point into its row.
-fn fill_row(finder: &mut Finder<'_>, at: &Rat, flows: &mut FlowTable, i: usize)
-    requires inside { IsInInterval finder.old at.now }
-    requires row { i < length flows.old }
-    requires width { length (flow_at flows.old i) ≡ length finder.old.arcs }
+// A greatest flow at a point, made from nothing.
+fn first_row(alloc: Global, finder: &mut Finder<'_>, at: &Rat) -> Result<Numbers, NoMemory>
+    requires { IsInInterval finder.old at.now }
+    ensures found { IfOk result (IsRow finder.old at.now) }
     ensures same { finder.new ≡ finder.old }
-    ensures filled { (flow : List ℤ) × (flows.new ≡ slice_set flows.old i flow) × IsGreatest (network_at finder.old at.now) flow × IsFlowShape finder.old flow }
-{
-    let row = flows.row_mut(i);
-    finder.write_flow(at, row);
-}
-
-// Writes a greatest flow at each point into its row.
-fn fill_rows(finder: &mut Finder<'_>, points: &[Rat], flows: &mut FlowTable)
-    requires inside { All (IsInInterval finder.old) points.now }
-    requires zeros { flows.old ≡ replicate (length points.now) (replicate (length finder.old.arcs) (pos 0)) }
-    ensures { AreGreatest finder.old points.now flows.new }
-{
-    'points: for i in 0..points.len() {
-        fill_row(finder, &points[i], flows, i);
-    }
-}
-
-// A greatest flow at each point.
-fn flows_at(alloc: Global, finder: &mut Finder<'_>, points: &[Rat]) -> Result<FlowTable, NoMemory>
-    requires { All (IsInInterval finder.old) points.now }
-    ensures { IfOk result (AreGreatest finder.old points.now) }
 {
     let width = finder.net().frame().arcs() as usize;
-    let mut flows = FlowTable::make(alloc, points.len(), width)?;
-    fill_rows(finder, points, &mut flows);
-    Ok(flows)
+    let mut flow = vec![in alloc; 0i128; width]?;
+    finder.write_flow(at, &mut flow);
+    Ok(Numbers::from_vec(flow))
+}
+
+// A greatest flow at a point, made from the flow at the point before.
+fn next_row(
+    alloc: Global,
+    finder: &mut Finder<'_>,
+    from: &Rat,
+    before: &[i128],
+    at: &Rat,
+) -> Result<Numbers, NoMemory>
+    requires from { IsInInterval finder.old from.now }
+    requires inside { IsInInterval finder.old at.now }
+    requires before { IsRow finder.old from.now before.now }
+    ensures found { IfOk result (IsRow finder.old at.now) }
+    ensures same { finder.new ≡ finder.old }
+{
+    let mut flow = Vec::from_slice(alloc, before)?;
+    finder.move_flow(from, at, &mut flow);
+    Ok(Numbers::from_vec(flow))
+}
+
+/// A greatest flow at each point, and how many of them were carried from the point before.
+#[derive(Drop)]
+pub struct Flows {
+    pub table: FlowTable,
+    pub carried: u64,
+}
+
+// One more row: a greatest flow at the point `i`.
+fn add_row(
+    alloc: Global,
+    finder: &mut Finder<'_>,
+    points: &[Rat],
+    i: usize,
+    table: &mut FlowTable,
+    carried: &mut u64,
+) -> Result<(), NoMemory>
+    requires inside { All (IsInInterval finder.old) points.now }
+    requires point { i < length points.now }
+    requires rows { AreFilled finder.old points.now i table.old }
+    ensures rows { IfOk result (λ _. AreFilled finder.old points.now (i + 1) table.new) }
+    ensures same { finder.new ≡ finder.old }
+{
+    if i == 0 {
+        let first = &points[0];
+        let row = first_row(alloc, finder, first)?;
+        table.push(row)?;
+        return Ok(());
+    }
+    let previous = i - 1;
+    let from = &points[previous];
+    let at = &points[i];
+    let row = next_row(alloc, finder, from, table.row(previous), at)?;
+    table.push(row)?;
+    *carried = carried.saturating_add(1);
+    Ok(())
+}
+
+/// A greatest flow at each point, each but the first made from the one before.
+pub fn flows_at(alloc: Global, finder: &mut Finder<'_>, points: &[Rat]) -> Result<Flows, NoMemory>
+    requires { All (IsInInterval finder.old) points.now }
+    ensures { IfOk result (λ flows. AreGreatest finder.old points.now flows.table) }
+{
+    let mut table = FlowTable::new(alloc);
+    let mut carried = 0u64;
+    'points: for i in 0..points.len() {
+        add_row(alloc, finder, points, i, &mut table, &mut carried)?;
+    }
+    Ok(Flows { table, carried })
+}
+
+/// The least-cut function of the network without flows: every breakpoint and no other, and the smallest least cut between each
+/// two. `NoMemory` is the only other answer. Gallo, Grigoriadis and Tarjan 1989; the search is that of the lower envelope of the
+/// lines of all cuts.
+pub fn cuts_of(alloc: Global, net: &Net) -> Result<CutFunction, NoMemory>
+    ensures curve { IfOk result (λ c. IsCurve net.now c.points c.cuts) }
+    ensures shape { IfOk result (λ c. All IsFractionShape c.points) }
+{
+    // It tells that the network is one.
+    let _ = net.frame().nodes();
+    let finder = Finder::make(alloc, net)?;
+    let mut family = Cuts {
+        finder,
+        opened: Opened::none(),
+    };
+    let parts = envelope(alloc, &mut family, net.lo(), net.hi())?;
+    let points = points_of(alloc, net.lo(), parts.as_slice())?;
+    let cuts = sides_of(alloc, parts)?;
+    Ok(CutFunction::new(points, cuts))
 }
 
 /// The whole least-cut function of the network: every breakpoint and no other, the least cut between each two, and a
-/// greatest flow at each point, which certifies it. Gallo, Grigoriadis and Tarjan 1989; the search is that of the lower
-/// envelope of the lines of all cuts.
+/// greatest flow at each point, which certifies it. `NoMemory` is the only other answer. Gallo, Grigoriadis and Tarjan 1989.
 pub fn curve_of(alloc: Global, net: &Net) -> Result<Curve, NoMemory>
     ensures curve { IfOk result (λ c. IsCurve net.now c.points c.cuts) }
     ensures certificate { IfOk result (λ c. CertifiesCurve net.now c.points c.cuts c.flows) }
@@ -107,11 +173,8 @@ pub fn curve_of(alloc: Global, net: &Net) -> Result<Curve, NoMemory>
 {
     // It tells that the network is one.
     let _ = net.frame().nodes();
-    let finder = Finder::make(alloc, net)?;
-    let mut family = Cuts { finder };
-    let parts = envelope(alloc, &mut family, net.lo(), net.hi())?;
-    let points = points_of(alloc, net.lo(), parts.as_slice())?;
-    let cuts = cuts_of(alloc, parts)?;
-    let flows = flows_at(alloc, &mut family.finder, points.get())?;
-    Ok(Curve::new(points, cuts, flows))
+    let found = cuts_of(alloc, net)?;
+    let mut finder = Finder::make(alloc, net)?;
+    let flows = flows_at(alloc, &mut finder, found.points())?;
+    Ok(found.with_flows(flows.table))
 }

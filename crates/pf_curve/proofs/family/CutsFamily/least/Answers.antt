@@ -1,14 +1,36 @@
-use Rattle.pf_model.proofs.Certificate.{at_most_trans}
+use Rattle.std.proofs.Common.{sym, subst, ap, ◌∙◌, IfOk}
+use Rattle.pf_model.specs.Network.{Network, IsInInterval, line_of}
+use Rattle.pf_envelope.specs.Envelope.{IsLeastAt}
+use Rattle.pf_curve.specs.Cuts.{IsCutFound, IsLineOfCut}
+use Rattle.pf_curve.proofs.Contracting.{ends_between, ends_here, served_inside}
 use Rattle.pf_curve.proofs.family.CutsFamily.least.Goals as goal
 
-pub find_cut-requires : goal.find_cut-requires
-find_cut-requires c =
-    let net = c.args.self.now.finder in
-    let left = c.requires.left_served in
-    let right = c.requires.right_served in
-    let parameter = c.q-q.ensures.bounds.parameter in
-    record {
-      parameter = parameter;
-      low = at_most_trans net.low c.args._left_at.now c.args.at.now left.low left.inside.parameter parameter left.inside.low c.requires.from_left;
-      high = at_most_trans c.args.at.now c.args._right_at.now net.high parameter right.inside.parameter right.high c.requires.to_right right.inside.high;
-    }
+pub find_between-requires-clause-inside : goal.find_between-requires-clause-inside
+find_between-requires-clause-inside c =
+    let P : Network → Type 0 = λ net. IsInInterval net c.args.at.now in
+    subst P (sym c.net-net.ensures)
+    (served_inside c.args.self.now.finder c.args.at.now c.args._left_at.now c.args._right_at.now c.q-q.ensures.bounds.parameter
+    c.requires.left_served c.requires.right_served c.requires.from_left c.requires.to_right)
+
+pub find_between-requires-clause-ends : goal.find_between-requires-clause-ends
+find_between-requires-clause-ends c =
+    ends_here c.args.self.now.finder c.net-net.result.now c.args.at.now c.args.left.now.side.items c.as_slice.result.now c.args.right.now.side.items c.as_slice-2.result.now
+    c.net-net.ensures c.as_slice.ensures.value c.as_slice-2.ensures.value
+    (ends_between c.args.self.now.finder c.args.at.now c.args._left_at.now c.args._right_at.now c.args.left.now.at c.args.right.now.at c.args.left.now.line c.args.right.now.line
+    c.args.left.now.side.items c.args.right.now.side.items c.q-q.ensures.bounds.parameter c.requires.left_served c.requires.right_served
+    c.requires.left_member c.requires.right_member c.requires.left_found c.requires.right_found c.requires.from_left c.requires.to_right)
+
+pub find_between-requires-clause-line : goal.find_between-requires-clause-line
+find_between-requires-clause-line c =
+    c.requires.left_member.line_is
+    ∙ sym (ap (λ (net : Network). line_of net c.as_slice.result.now) c.net-net.ensures ∙ ap (line_of c.args.self.now.finder) c.as_slice.ensures.value)
+
+pub returns-clause-member : goal.returns-clause-member
+returns-clause-member c =
+    let P : Network → Type 0 = λ net. IfOk c.find_between.result (λ m. IsCutFound net m.at m.line m.side.items) in
+    subst P c.net-net.ensures c.find_between.ensures.found
+
+pub returns-clause-least : goal.returns-clause-least
+returns-clause-least c =
+    let P : Network → Type 0 = λ net. IfOk c.find_between.result (λ m. IsLeastAt (IsLineOfCut net) m.line c.args.at.now) in
+    subst P c.net-net.ensures c.find_between.ensures.least

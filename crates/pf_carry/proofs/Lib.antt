@@ -1,0 +1,5 @@
+pub mod Floors
+pub mod Scaled
+pub mod Lowering
+pub mod Emptying
+pub mod Carrying
