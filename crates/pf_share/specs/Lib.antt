@@ -1,6 +1,10 @@
 pub mod Problem
 pub mod Certificate
+pub mod Weighted
+pub mod Text
+pub mod Gathered
 pub mod Right
+pub mod Taken
 pub mod Reduction
 pub mod Tests
 pub mod Laws

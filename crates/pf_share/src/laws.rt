@@ -1,7 +1,7 @@
 //! What holds of fair shares, each law as the contract of a function that does nothing.
 
 ghost use Rattle.pf_share.specs.Worked.{NarrowArc, NarrowShares, OneLevel, NotFull, NoWayOut, Thirds};
-ghost use Rattle.pf_share.specs.Laws.{CertificateImpliesFair, CurveIsRead, OneFairVector};
+ghost use Rattle.pf_share.specs.Laws.{CertificateImpliesFair, CurveIsRead, OneFairVector, AcceptedIsBounded, SharesFromText, CertifiedIsRight};
 
 /// What certifies shares proves them fair.
 pub fn certificate_implies_fair()
@@ -27,4 +27,16 @@ pub fn worked_networks()
 /// What is read off a curve of the network is certified.
 pub fn curve_is_read()
     ensures { CurveIsRead }
+{}
+
+/// A text of the kind `share` that is accepted gives a network within its limits.
+pub fn accepted_networks_are_bounded()
+    ensures { AcceptedIsBounded }
+{}
+
+/// The text of shares of the right shape, with fewer than 10^64 levels, is the text of no others of that kind; and the verdict on a
+/// text is `yes` for exactly the texts of right answers.
+pub fn texts_determine_answers()
+    ensures shares { SharesFromText }
+    ensures certified { CertifiedIsRight }
 {}

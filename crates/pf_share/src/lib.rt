@@ -2,14 +2,26 @@
 //! source could have more only where one of at most its level, which is its share by its weight, has less.
 #![tactic(auto)]
 
+mod answers;
+mod certified;
 mod checking;
+mod gathering;
 pub mod laws;
 mod network;
+mod reading;
 mod shares;
 mod sharing;
 mod solving;
+#[cfg(test)]
+mod tests;
+mod weighted;
+mod writing;
 
+pub use answers::read_shares;
+pub use certified::{are_certified_shares, is_certified_shares_text};
 pub use checking::check_shares;
 pub use network::share_net;
+pub use reading::{ShareKind, read_share};
 pub use shares::Shares;
 pub use sharing::Sharing;
+pub use writing::write_shares;

@@ -7,6 +7,7 @@ ghost use Rattle.pf_share.specs.Certificate.{level_at, group_at};
 
 use pf_curve::Points;
 use pf_frame::Numbers;
+use pf_rat::Rat;
 use std::marker::Model;
 
 /// The levels that occur, rising; for each node the number of its level, from 1, or 0 for a node that holds no source back; and for each
@@ -58,6 +59,14 @@ impl Shares {
         }
     }
 
+    // The same with these numbers on the arcs.
+    pub(crate) fn with_flow(self, flow: Numbers) -> Shares
+        ensures { result ≡ record { levels = self.levels; groups = self.groups; flow = flow } }
+    {
+        let Shares { levels, groups, .. } = self;
+        Shares::new(levels, groups, flow)
+    }
+
     /// The levels, rising.
     pub fn levels(&self) -> &Points
         ensures { result.now ≡ self.now.levels }
@@ -89,6 +98,15 @@ impl Shares {
     {
         let count = self.levels.get().len();
         index_of(&self.groups.get()[v], count)
+    }
+
+    // The level of a group but group 0.
+    pub(crate) fn level(&self, group: usize) -> &Rat
+        requires low { 1 ≤ group }
+        requires high { group ≤ length self.now.levels }
+        ensures { result.now ≡ level_at self.now.levels group }
+    {
+        &self.levels.get()[group - 1]
     }
 
     // The numerator of a level, which is 0 for group 0.

@@ -26,10 +26,8 @@ impl Model for Sharing {
 }
 
 impl Sharing {
-    /// The network with a weight for each node, 0 at a node that is no source, and arcs, each a tail and a head, with their
-    /// capacities. There are at most 1000 nodes and 10000 arcs; weights are at most 1000000, and 0 at the sink; capacities are at most
-    /// 1000000000.
-    pub fn from_vecs(
+    // The network with a weight for each node, 0 at a node that is no source, and arcs, each a tail and a head, with their capacities.
+    pub(crate) fn from_vecs(
         sink: u32,
         weights: Vec<u32>,
         ends: Vec<(u32, u32)>,
