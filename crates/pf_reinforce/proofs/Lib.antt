@@ -6,3 +6,4 @@ pub mod Rising
 pub mod Thresholds
 pub mod Gains
 pub mod Ending
+pub mod Printed

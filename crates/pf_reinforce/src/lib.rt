@@ -9,6 +9,8 @@ mod reinforcement;
 mod sums;
 #[cfg(test)]
 mod tests;
+mod text;
 
 pub use added::Added;
 pub use reinforcement::Reinforcement;
+pub use text::write_reinforcement;

@@ -29,7 +29,8 @@ fn is_blocked(graph: &Graph, level: &Rat, forest: &mut Forest<'_>) -> bool
     ensures blocked { result ≡ true → IsBlocked graph.now level.now forest.new.labels }
     ensures connected { result ≡ false → IsConnectedAbove graph.now level.now }
 {
-    if level.p() <= 0 {
+    let none: i128 = 0;
+    if level.p() <= none {
         return false;
     }
     // Below a crossing weight of 1 for all parts, no edge is worth its part.

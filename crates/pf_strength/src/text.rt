@@ -15,8 +15,8 @@ use pf_lines::{AnswerBad, Exact, take_fraction_row, take_word};
 use pf_rat::Rat;
 use std::alloc::Global;
 
-// Each split, with the number of its root.
-fn print_splits<K: Sink>(out: &mut Printer<'_, K>, splits: &FlowTable) -> Result<(), Failed>
+/// Each row of a table of splits, as `r R X1 .. XM`, where the roots are numbered from 1.
+pub fn print_splits<K: Sink>(out: &mut Printer<'_, K>, splits: &FlowTable) -> Result<(), Failed>
     requires { is_spent out.old ≡ false }
     ensures { Adds out.old out.new (splits_text 0 splits.now) result }
 {

@@ -18,7 +18,7 @@ returns-clause-blocked c = λ more.
     ap (λ z. c.new-least.result.p *ℤ z) (sym n) ∙ (c.new-least.ensures.equal ∙ once c.new-least.result.q) in
     let a = components c.args.graph.now c.new-least.result c.fill.new.self.labels c.vertices.ensures.limits c.new-least.ensures.bounds.parameter e filled.best in
     let count : c.parts.result ≡ parts c.fill.new.self.labels = c.parts.ensures ∙ ap parts c.partition.ensures in
-    blocked_by c.args.graph.now c.args.level.now c.fill.new.self.labels a filled.keeps.partition (omega (arith, ints, c.if-p-le0.false, c.p.ensures.value)) (told_more _ _ more count)
+    blocked_by c.args.graph.now c.args.level.now c.fill.new.self.labels a filled.keeps.partition (omega (arith, ints, c.if-p-none.false, c.p.ensures.value)) (told_more _ _ more count)
 
 pub returns-clause-connected : goal.returns-clause-connected
 returns-clause-connected c = λ few.
