@@ -18,3 +18,6 @@ pub mod NumberedCuts
 pub mod LevelLemmas
 pub mod Answering
 pub mod Examples
+pub mod LevelLines
+pub mod KindLemmas
+pub mod RightLemmas

@@ -1,9 +1,17 @@
 -- What holds of layers.
-use Rattle.std.specs.Prelude.{◌≡◌, ℕ, ◌<◌, ℤ, List, length}
+use Rattle.std.specs.Prelude.{◌≡◌, ℕ, ◌<◌, ℤ, true, false, List, ◌∷◌, length, Err, codes}
 use Rattle.pf_model.specs.Fraction.{Fraction, IsEqual, IsLowest}
+use Rattle.pf_text.specs.declared.TextBad.TheVariants.{WrongKind}
+use Rattle.pf_text.specs.Lines.{Line}
+use Rattle.pf_text.specs.Kinds.{is_wrong_kind, problem_of_lines}
 use Rattle.pf_graph.specs.WeightedGraph.{WeightedGraph, IsWeightedGraph}
+use Rattle.pf_graph.specs.declared.graph.Task.TheVariants.{Densest}
+use Rattle.pf_graph.specs.Text.{graph}
 use Rattle.pf_dense.specs.Densest.{HasPositiveCosts}
 use Rattle.pf_closure.specs.Problem.{ClosureProblem, IsClosureProblem}
+use Rattle.pf_closure.specs.Text.{closure}
+use Rattle.pf_layers.specs.declared.problem.LayerProblem.TheVariants.{Graph, Closure}
+use Rattle.pf_layers.specs.Problem.{accepted_as, layer_problem_of_lines}
 use Rattle.pf_layers.specs.Layers.{level_at}
 use Rattle.pf_layers.specs.DenseLayers.{IsDenseLayers}
 use Rattle.pf_layers.specs.RatioLayers.{IsRatioLayers}
@@ -34,3 +42,13 @@ OneDenseLevels = (g : WeightedGraph) (levels levels' : List Fraction) (layers la
 abbrev pub OneRatioLevels : Type 0
 OneRatioLevels = (p : ClosureProblem) (levels levels' : List Fraction) (layers layers' : List ℤ) → IsClosureProblem p →
     IsRatioLayers p levels layers → IsRatioLayers p levels' layers' → AreLowest levels → AreLowest levels' → levels ≡ levels'
+
+-- A text of which the header is not that of another kind than `closure` is read as one of that kind, and likewise for `graph`. The header
+-- of a third kind is a wrong one.
+pub record IsReadByHeader (line : Line) (later : List Line) : Type 0 where
+  pub as_closure : is_wrong_kind (codes "closure") line.fields ≡ false →
+      layer_problem_of_lines (line ∷ later) ≡ accepted_as Closure (problem_of_lines closure (line ∷ later))
+  pub as_graph : is_wrong_kind (codes "graph") line.fields ≡ false →
+      layer_problem_of_lines (line ∷ later) ≡ accepted_as Graph (problem_of_lines (graph Densest) (line ∷ later))
+  pub third : is_wrong_kind (codes "closure") line.fields ≡ true → is_wrong_kind (codes "graph") line.fields ≡ true →
+      layer_problem_of_lines (line ∷ later) ≡ Err (WrongKind line.number)

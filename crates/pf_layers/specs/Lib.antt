@@ -5,3 +5,6 @@ pub mod Reading
 pub mod Answer
 pub mod Laws
 pub mod Worked
+pub mod Text
+pub mod Problem
+pub mod Right

@@ -1,7 +1,9 @@
 //! What holds of layers, each law as the contract of a function that does nothing.
 
 ghost use Rattle.pf_layers.specs.Worked.{EdgesNumbers, EdgesForgotten, BareLayers, ItemNumbers};
-ghost use Rattle.pf_layers.specs.Laws.{OneDenseLayers, OneRatioLayers, OneDenseLevels, OneRatioLevels};
+ghost use Rattle.std.specs.Prelude.{List};
+ghost use Rattle.pf_text.specs.Lines.{Line};
+ghost use Rattle.pf_layers.specs.Laws.{OneDenseLayers, OneRatioLayers, OneDenseLevels, OneRatioLevels, IsReadByHeader};
 
 /// At most one list of layers is right, over a graph and over items. Its levels are the same fractions where they are in lowest terms.
 pub fn layers_are_unique()
@@ -18,4 +20,10 @@ pub fn worked_layers()
     ensures forgotten { EdgesForgotten }
     ensures bare { BareLayers }
     ensures items { ItemNumbers }
+{}
+
+/// The header tells the kind of a text, whichever of the two kinds is tried first: what is not of another kind than `closure` is read as
+/// one of that kind, likewise for `graph`, and a third kind is a wrong one.
+pub fn kinds_are_told()
+    ensures { (line : Line) (later : List Line) → IsReadByHeader line later }
 {}

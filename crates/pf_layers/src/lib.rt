@@ -5,9 +5,13 @@
 pub mod laws;
 mod layers;
 mod numbering;
+mod problem;
 mod solving;
 #[cfg(test)]
 mod tests;
+mod writing;
 
 pub use layers::Layers;
-pub use solving::{dense_layers, ratio_layers};
+pub use problem::{LayerProblem, read_layers};
+pub use solving::{dense_layers, layers_of, ratio_layers};
+pub use writing::write_layers;

@@ -7,7 +7,7 @@ ghost use Rattle.pf_closure.specs.Reduction.{closure_net};
 ghost use Rattle.pf_layers.specs.Reading.{IsNumbered, IsPut, HasNumber, outside_cut, items_in};
 
 use pf_closure::Items;
-use pf_curve::Curve;
+use pf_curve::CutFunction;
 use pf_graph::Graph;
 
 // Puts the number in its place where the test says so.
@@ -42,7 +42,7 @@ fn put_left(side: &[bool], number: usize, layers: &mut [i128])
 
 // Writes the numbers of the vertices, of which each has 1 at first: a vertex that the last so many cuts do not hold, and no other, is
 // numbered higher than so many.
-pub fn number_vertices(graph: &Graph, curve: &Curve, layers: &mut [i128])
+pub fn number_vertices(graph: &Graph, curve: &CutFunction, layers: &mut [i128])
     requires curve { IsCurve (dense_net graph.now) curve.now.points curve.now.cuts }
     requires ones { layers.old ≡ replicate graph.now.nodes (pos 1) }
     ensures { IsNumbered graph.now.nodes (outside_cut graph.now curve.now.cuts) layers.new (length curve.now.cuts) }
@@ -57,7 +57,7 @@ pub fn number_vertices(graph: &Graph, curve: &Curve, layers: &mut [i128])
 
 // Writes the numbers of the items, of which each has 1 at first: an item that the first so many cuts do not hold, and no other, is
 // numbered so high.
-pub fn number_items(items: &Items, curve: &Curve, count: usize, layers: &mut [i128])
+pub fn number_items(items: &Items, curve: &CutFunction, count: usize, layers: &mut [i128])
     requires curve { IsCurve (closure_net items.now) curve.now.points curve.now.cuts }
     requires count { suc count ≡ length curve.now.cuts }
     requires ones { layers.old ≡ replicate (length items.now.costs) (pos 1) }

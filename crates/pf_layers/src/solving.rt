@@ -3,11 +3,14 @@ ghost use Rattle.std.specs.Prelude.{◌≡◌, ◌++◌, ◌∷◌, [], ◌⊎�
 ghost use Rattle.pf_model.specs.Answer.{IsFractionShape};
 ghost use Rattle.pf_layers.specs.Answer.{IsDenseAnswer, IsRatioAnswer};
 ghost use Rattle.pf_layers.specs.Reading.{AreFalling, AreRising, IsEnded};
+ghost use Rattle.pf_layers.specs.Right.{IsRightLayers};
+ghost use Rattle.pf_layers.specs.Text.{layers_text};
 
 use crate::layers::Layers;
 use crate::numbering::{has_number, number_items, number_vertices};
+use crate::problem::LayerProblem;
 use pf_closure::{Items, closure_net};
-use pf_curve::{Curve, Points, curve_of};
+use pf_curve::{CutFunction, Points, cuts_of};
 use pf_dense::dense_net;
 use pf_frame::{NoMemory, Numbers};
 use pf_graph::Graph;
@@ -26,7 +29,7 @@ fn add_level(levels: &mut Points, level: Rat) -> Result<(), NoMemory>
 }
 
 // The points inside the interval, from the last one down.
-fn falling_levels(alloc: Global, graph: &Graph, curve: &Curve) -> Result<Points, NoMemory>
+fn falling_levels(alloc: Global, graph: &Graph, curve: &CutFunction) -> Result<Points, NoMemory>
     requires { 0 < length curve.now.cuts }
     ensures count { IfOk result (λ levels. suc (length levels) ≡ length curve.now.cuts) }
     ensures levels { IfOk result (AreFalling graph.now curve.now.points curve.now.cuts) }
@@ -45,7 +48,7 @@ fn falling_levels(alloc: Global, graph: &Graph, curve: &Curve) -> Result<Points,
 fn rising_levels(
     alloc: Global,
     items: &Items,
-    curve: &Curve,
+    curve: &CutFunction,
     count: usize,
 ) -> Result<Points, NoMemory>
     requires { suc count ≡ length curve.now.cuts }
@@ -83,7 +86,7 @@ pub fn dense_layers(alloc: Global, graph: &Graph) -> Result<Layers, NoMemory>
 {
     let count = graph.vertices() as usize;
     let net = dense_net(alloc, graph)?;
-    let curve = curve_of(alloc, &net)?;
+    let curve = cuts_of(alloc, &net)?;
     let cuts = curve.points().len() - 1;
     let mut layers = vec![in alloc; 1i128; count]?;
     number_vertices(graph, &curve, &mut layers);
@@ -99,10 +102,20 @@ pub fn ratio_layers(alloc: Global, items: &Items) -> Result<Layers, NoMemory>
 {
     let width = items.items() as usize;
     let net = closure_net(alloc, items)?;
-    let curve = curve_of(alloc, &net)?;
+    let curve = cuts_of(alloc, &net)?;
     let count = curve.points().len() - 2;
     let mut layers = vec![in alloc; 1i128; width]?;
     number_items(items, &curve, count, &mut layers);
     let levels = rising_levels(alloc, items, &curve, count)?;
     Ok(Layers::new(levels, Numbers::from_vec(layers)))
+}
+
+/// The layers of a problem of either kind. `NoMemory` is the only other answer.
+pub fn layers_of(alloc: Global, problem: &LayerProblem) -> Result<Layers, NoMemory>
+    ensures { IfOk result (λ answer. IsRightLayers problem.now (layers_text answer)) }
+{
+    match problem {
+        LayerProblem::Graph(graph) => dense_layers(alloc, graph),
+        LayerProblem::Closure(items) => ratio_layers(alloc, items),
+    }
 }
