@@ -1,5 +1,6 @@
 pub mod NaturalLemmas
 pub mod RequestLemmas
+pub mod LevelLemmas
 pub mod PointLemmas
 pub mod TreesLemmas
 pub mod AnsweringLemmas

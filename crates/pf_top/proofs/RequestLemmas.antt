@@ -1,7 +1,7 @@
 -- The two numbers of a parameter, as the reader of fields gives them.
 use Rattle.std.proofs.Common.{◌≡◌, ℕ, to_z, of_z, ◌<◌, ◌≤◌, Bool, true, false, cond, eqb, get_or, List, [], ◌∷◌, Option, Some, None, Ok, Err, refl, sym, ap, ◌∙◌, arith}
 use Rattle.std.specs.Prelude.{ℤ, pos, neg_ℤ, ◌≤ℤ◌, int_le, nat_le, ◌&&◌, length, map}
-use Rattle.std.specs.Option.{option_map, option_and_then}
+use Rattle.std.specs.Option.{option_map, option_and_then, option_or}
 use Rattle.std.specs.Int.{w64}
 use Rattle.std.proofs.lemmas.Int.{ints}
 use Rattle.std.proofs.lemmas.Bool.Decides.{nat_tests}
@@ -9,7 +9,7 @@ use Rattle.pf_model.specs.Fraction.{IsBoundedFraction, lowest}
 use Rattle.pf_text.specs.Numbers.{natural_of, whole_of, billion}
 use Rattle.pf_text.specs.Words.{natural_within, integer_within, fraction_of_numbers}
 use Rattle.pf_top.specs.Job.{named, answer, reads}
-use Rattle.pf_top.specs.Asked.{beside, names, first_words, command_of}
+use Rattle.pf_top.specs.Asked.{beside, names, lone_words, first_words, command_of}
 use Rattle.pf_text.proofs.NumbersLemmas.{whole_of-minus, whole_of-plain, natural_of-others}
 use Rattle.pf_top.specs.Words.{word_bytes, fraction_of_parts}
 use Rattle.std.specs.String.{string_bytes}
@@ -139,7 +139,7 @@ command_of_no_word : command_of [] ≡ None
 unfolding command_of
 command_of_no_word = refl
 
-command_of_one : (first : List ℕ) → command_of (first ∷ []) ≡ option_map (λ name. reads (answer (named name))) (beside names first)
+command_of_one : (first : List ℕ) → command_of (first ∷ []) ≡ option_or (option_map (λ name. reads (answer (named name))) (beside names first)) (beside lone_words first)
 unfolding command_of
 command_of_one first = refl
 
@@ -162,7 +162,7 @@ command_of_pair (a ∷ b ∷ []) first second some few zeroth next =
 command_of_pair (a ∷ b ∷ c ∷ words) first second some few zeroth next = absurd (omega (arith, few))
 
 pub command_of_single : (words : List (String Global)) (first : String Global) → 1 ≤ length words → length words < 2 → first ≡ get_or words 0 first
-    → command_of (word_bytes words) ≡ option_map (λ name. reads (answer (named name))) (beside names (string_bytes first))
+    → command_of (word_bytes words) ≡ option_or (option_map (λ name. reads (answer (named name))) (beside names (string_bytes first))) (beside lone_words (string_bytes first))
 command_of_single [] first some few zeroth = absurd (omega (arith, some))
 command_of_single (a ∷ []) first some few zeroth = let one : first ≡ a = zeroth in rw one (command_of_one (string_bytes a))
 command_of_single (a ∷ b ∷ words) first some few zeroth = absurd (omega (arith, few))

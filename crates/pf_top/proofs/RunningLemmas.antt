@@ -11,7 +11,8 @@ use Rattle.pf_text.specs.declared.Refusal.{Refusal}
 use Rattle.pf_text.specs.declared.Refusal.TheVariants as refusals
 use Rattle.std.proofs.lemmas.Bool.{lt-ltb}
 use Rattle.pf_text.specs.declared.TextBad.{TextBad}
-use Rattle.pf_text.specs.Kinds.{Accepted, problem_of}
+use Rattle.pf_text.specs.Lines.{lines_from}
+use Rattle.pf_text.specs.Kinds.{Accepted}
 use Rattle.pf_text.specs.Verdict.{verdict_text, IsRightVerdict}
 use Rattle.pf_text.proofs.VerdictLemmas.{same_verdict}
 use Rattle.pf_gen.specs.Right.{IsRightSummary}
@@ -128,8 +129,8 @@ read_not_usage command (Ok read) =
 -- a command asks for something
 asks_something : (command : TextCommand) (bytes : List ℕ) → asked_of_bytes command bytes ≢ usage
 asks_something command bytes =
-    let read = asked_of_read command (problem_of (job_of (row_of command)).kind bytes) in
-    either (nat_lt (2 ^ 29) (length bytes)) (refused refusals.TooLong) read (λ e. cc) (read_not_usage command (problem_of (job_of (row_of command)).kind bytes))
+    let read = asked_of_read command ((job_of (row_of command)).read (lines_from 1 bytes)) in
+    either (nat_lt (2 ^ 29) (length bytes)) (refused refusals.TooLong) read (λ e. cc) (read_not_usage command ((job_of (row_of command)).read (lines_from 1 bytes)))
 
 not_usage : (words : List (List ℕ)) (bytes : List ℕ) (command : TextCommand) → command_of words ≡ Some (reads command) → asked words bytes ≢ usage
 not_usage words bytes command some = rw (asked_command words bytes command some) (asks_something command bytes)

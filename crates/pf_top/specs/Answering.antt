@@ -4,7 +4,6 @@ use Rattle.pf_text.specs.declared.Refusal.{Refusal}
 use Rattle.pf_text.specs.declared.TextBad.{TextBad}
 use Rattle.pf_text.specs.declared.Refusal.TheVariants.{Text, TooLong}
 use Rattle.pf_text.specs.Lines.{lines_from}
-use Rattle.pf_text.specs.Kinds.{problem_of_lines, problem_of}
 use Rattle.pf_lines.specs.Places.{Place, lines_left}
 use Rattle.pf_top.specs.Job.{Row, job_of, ProblemOf, TextCommand}
 use Rattle.pf_top.specs.Asked.{refused, asked_of_bytes}
@@ -20,19 +19,19 @@ pub record IsRefused (command : TextCommand) (bytes : List ℕ) (refusal : Refus
 
 -- the lines that are left at a place give the problem, and the other place is the one behind them
 pub record IsReadTo (row : Row) (before after : Place) (problem : ProblemOf row) : Type 0 where
-  pub judged : problem_of_lines (job_of row).kind (lines_left before) ≡ Ok (record { problem = problem; rest = after.rest; line = after.number })
+  pub judged : (job_of row).read (lines_left before) ≡ Ok (record { problem = problem; rest = after.rest; line = after.number })
 
 -- they are refused
 pub record IsBadText (row : Row) (before : Place) (refusal : Refusal) : Type 0 where
   pub bad : TextBad
-  pub judged : problem_of_lines (job_of row).kind (lines_left before) ≡ Err bad
+  pub judged : (job_of row).read (lines_left before) ≡ Err bad
   pub same : refusal ≡ Text bad
 
 -- the text is that of the problem, with no line behind it
 pub record IsProblemOf (row : Row) (bytes : List ℕ) (problem : ProblemOf row) : Type 0 where
   pub rest : List ℕ
   pub line : ℕ
-  pub text : problem_of (job_of row).kind bytes ≡ Ok (record { problem = problem; rest = rest; line = line })
+  pub text : (job_of row).read (lines_from 1 bytes) ≡ Ok (record { problem = problem; rest = rest; line = line })
   pub alone : lines_from (line + 1) rest ≡ []
 
 -- the status of a command that made no answer

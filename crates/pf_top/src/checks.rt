@@ -3,9 +3,9 @@ ghost use Rattle.std.specs.Prelude.{◌<◌, length};
 
 use super::*;
 use crate::texts::{
-    DEAR, DEAR_DENSEST, FIVE, FIVE_CERTIFICATE, LIGHT, LIGHT_AND_HEAVY, LIGHT_RATIO, PARTS,
-    PARTS_SELECT, STEEP, STEEP_CURVE, THREE, TRIANGLE, TRIANGLE_PARTITION, TRIANGLE_STRENGTH,
-    TWO_PAIRS, TWO_PAIRS_STRENGTH,
+    DEAR, DEAR_DENSEST, FIVE, FIVE_CERTIFICATE, LIGHT, LIGHT_AND_HEAVY, LIGHT_RATIO, NARROW,
+    NARROW_SHARES, PARTS, PARTS_SELECT, STEEP, STEEP_CURVE, THREE, TRIANGLE, TRIANGLE_PARTITION,
+    TRIANGLE_STRENGTH, TWO_PAIRS, TWO_PAIRS_STRENGTH,
 };
 use pf_gen::net_text;
 use pf_io::{MemSink, MemSource};
@@ -13,7 +13,7 @@ use std::alloc::{AllocError, Global};
 use std::test::Fail;
 
 // The name of a command, a problem, and a text that certifies its answer.
-const CERTIFIED: [(&str, &[u8], &[u8]); 8] = [
+const CERTIFIED: [(&str, &[u8], &[u8]); 9] = [
     ("curve", STEEP, STEEP_CURVE),
     ("curve", FIVE, FIVE_CERTIFICATE),
     ("closure", LIGHT, LIGHT_RATIO),
@@ -22,13 +22,14 @@ const CERTIFIED: [(&str, &[u8], &[u8]); 8] = [
     ("strength", TWO_PAIRS, TWO_PAIRS_STRENGTH),
     ("select", PARTS, PARTS_SELECT),
     ("partition", TRIANGLE, TRIANGLE_PARTITION),
+    ("share", NARROW, NARROW_SHARES),
 ];
 
 // The same, and a text that certifies nothing: a flow that leaves a node out, a breakpoint left out, nothing, and a side
 // that holds the sink; the greatest least cut in place of the smallest; the second best closure; all vertices, at the density
 // of two of them; a partition of another ratio, and one with one part; a schedule that leaves out a price; a principal
-// partition that leaves out a level.
-const REJECTED: [(&str, &[u8], &[u8]); 11] = [
+// partition that leaves out a level; the first common level for both sources.
+const REJECTED: [(&str, &[u8], &[u8]); 12] = [
     (
         "curve",
         FIVE,
@@ -71,6 +72,11 @@ const REJECTED: [(&str, &[u8], &[u8]); 11] = [
         "partition",
         LIGHT_AND_HEAVY,
         b"o partition\nk 1\ns 0 1 1 1\nb 1 3 2 0\ns 1 1 2 3\ny 1 2 3\nr 1 1 0 0\nr 1 2 2 0\nr 1 3 2 3\nend\n",
+    ),
+    (
+        "share",
+        NARROW,
+        b"o share\nk 1\nl 1 1 1\nm 1 1 0 0\nx 1 1 1\nx 2 1 1\nf 1 1 2\nend\n",
     ),
 ];
 

@@ -1,7 +1,6 @@
 // What every command does, from its bytes to its status.
 ghost use Rattle.std.specs.Prelude.{◌≡◌, ◌≢◌, ◌↔◌, ℕ, ◌^◌, ◌≤◌, List, length, true, false, Some, None, Err, IfOk, OnOk, if◌then◌else◌};
 ghost use Rattle.pf_text.specs.declared.Refusal.{Refusal};
-ghost use Rattle.pf_text.specs.Kinds.{problem_of_lines};
 ghost use Rattle.pf_text.specs.Verdict.{verdict_text};
 ghost use Rattle.pf_lines.specs.Places.{lines_left};
 ghost use Rattle.pf_lines.specs.Reading.{Agrees};
@@ -70,7 +69,7 @@ pub trait Job {
 
     /// Reads the problem, and leaves the reader of lines behind its line `end`.
     fn read(&self, alloc: Global, lines: &mut Lines<'_>) -> Result<Self::Problem, ReadBad>
-        ensures judged { Agrees (problem_of_lines (job_of (row_of self.now)).kind (lines_left lines.old))
+        ensures judged { Agrees ((job_of (row_of self.now)).read (lines_left lines.old))
             (λ p. record { problem = problem_of self.now p; rest = lines.new.rest; line = lines.new.number }) result };
 
     /// Finds the answer, or the reason against the problem.

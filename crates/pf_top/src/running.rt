@@ -10,8 +10,10 @@ use crate::commands::closure::Closure;
 use crate::commands::curve::Curve;
 use crate::commands::densest::Densest;
 use crate::commands::generate::generate;
+use crate::commands::layers::Layers;
 use crate::commands::partition::Partition;
 use crate::commands::select::Select;
+use crate::commands::share::Share;
 use crate::commands::strength::Strength;
 use crate::job::{answer, check};
 use crate::messages::tell;
@@ -36,6 +38,7 @@ fn answer_named<O: Sink>(name: Name, alloc: Global, bytes: &[u8], out: &mut O) -
         Name::Strength => answer(&Strength, alloc, bytes, out),
         Name::Select => answer(&Select, alloc, bytes, out),
         Name::Partition => answer(&Partition, alloc, bytes, out),
+        Name::Share => answer(&Share, alloc, bytes, out),
     }
 }
 
@@ -51,6 +54,7 @@ fn check_named<O: Sink>(name: Name, alloc: Global, bytes: &[u8], out: &mut O) ->
         Name::Strength => check(&Strength, alloc, bytes, out),
         Name::Select => check(&Select, alloc, bytes, out),
         Name::Partition => check(&Partition, alloc, bytes, out),
+        Name::Share => check(&Share, alloc, bytes, out),
     }
 }
 
@@ -62,6 +66,8 @@ fn run_request<O: Sink>(alloc: Global, request: &TextRequest, bytes: &[u8], out:
     match request {
         TextRequest::At(job) => answer(job, alloc, bytes, out),
         TextRequest::Trees(job) => answer(job, alloc, bytes, out),
+        TextRequest::Reinforce(job) => answer(job, alloc, bytes, out),
+        TextRequest::Layers => answer(&Layers, alloc, bytes, out),
         TextRequest::Answer(name) => answer_named(*name, alloc, bytes, out),
         TextRequest::Check(name) => check_named(*name, alloc, bytes, out),
     }

@@ -1,7 +1,7 @@
 use super::*;
 use crate::texts::{
-    COMPLETE, DEAR, DEAR_DENSEST, EDGE, FIVE, LIGHT_AND_HEAVY, LIGHT_AND_HEAVY_PARTITION, PARTS,
-    PARTS_SELECT, STEEP, STEEP_CURVE, THREE, THREE_AT_FOUR, THREE_CURVE, TRIANGLE,
+    COMPLETE, DEAR, DEAR_DENSEST, EDGE, FIVE, LIGHT, LIGHT_AND_HEAVY, LIGHT_AND_HEAVY_PARTITION,
+    NARROW, NARROW_SHARES, PARTS, STEEP, STEEP_CURVE, THREE, THREE_AT_FOUR, THREE_CURVE, TRIANGLE,
     TRIANGLE_STRENGTH, TWO_PAIRS, TWO_PAIRS_STRENGTH,
 };
 use pf_io::{MemSink, MemSource};
@@ -116,7 +116,10 @@ const STRENGTHS: [(&[u8], &[u8]); 3] = [
 
 // A text, and the answer to `select`: two prices, one price, no product, and the greatest gain.
 const SELECTIONS: [(&[u8], &[u8]); 4] = [
-    (PARTS, PARTS_SELECT),
+    (
+        PARTS,
+        b"o select\nk 2\ns 0 111\nb 1 2 1 2\ns 1 001\nb 2 4 1 0\ns 2 000\nf 1 4 6 2\nf 2 4 6 4\nend\n",
+    ),
     (
         b"p select 2 1 2\nv 1 2\nv 2 3\ng 1 10\nr 1 1\nr 1 2\nend\n",
         b"o select\nk 1\ns 0 11\nb 1 2 1 0\ns 1 00\nf 1 4 6\nend\n",
@@ -128,6 +131,40 @@ const SELECTIONS: [(&[u8], &[u8]); 4] = [
     (
         b"p select 1 1 1\nv 1 1\ng 1 1000000\nr 1 1\nend\n",
         b"o select\nk 1\ns 0 1\nb 1 1000000 1 0\ns 1 0\nf 1 1000000\nend\n",
+    ),
+];
+
+// A text, and the answer to `share`: a narrow arc, a source with no way out, no source, and the greatest numbers.
+const SHARES: [(&[u8], &[u8]); 4] = [
+    (NARROW, NARROW_SHARES),
+    (
+        b"p share 3 1\nn 3 t\nw 1 1\nw 2 1\na 2 3 5\nend\n",
+        b"o share\nk 2\nl 1 0 1\nl 2 5 1\nm 1 2 0\nx 1 0 1\nx 2 5 1\nf 5\nend\n",
+    ),
+    (
+        b"p share 2 1\nn 2 t\na 1 2 3\nend\n",
+        b"o share\nk 0\nm 0 0\nf 0\nend\n",
+    ),
+    (
+        b"p share 2 1\nn 2 t\nw 1 1000000\na 1 2 1000000000\nend\n",
+        b"o share\nk 1\nl 1 1000 1\nm 1 0\nx 1 1000000000 1\nf 1000000000\nend\n",
+    ),
+];
+
+// A text that `share` refuses, and the line that says why.
+const NOT_SHARED: [(&[u8], &[u8]); 4] = [
+    (
+        b"p share 2 0\nn 2 t\nn 1 t\nend\n",
+        b"ppart: line 3: rule repeated\n",
+    ),
+    (
+        b"p share 2 0\nn 2 t\nw 1 1\nw 1 1\nend\n",
+        b"ppart: line 4: rule repeated\n",
+    ),
+    (b"p share 2 0\nend\n", b"ppart: line 2: rule missing\n"),
+    (
+        b"p share 2 0\nn 2 t\nw 2 1\nend\n",
+        b"ppart: line 3: rule ends\n",
     ),
 ];
 
@@ -222,6 +259,38 @@ const NOT_DENSEST: [(&[u8], &[u8]); 4] = [
     (THREE, b"ppart: line 1: wrong kind\n"),
 ];
 
+// A text, and the answer to `layers`: three edges in a row, no edge, a dear item, and a cheap one that needs the other.
+const LAYERS: [(&[u8], &[u8]); 4] = [
+    (
+        b"p graph 5 3\ne 1 2 3\ne 2 3 1\ne 3 4 1\nend\n",
+        b"o layers\nk 3\nl 1 3 2\nl 2 1 1\nl 3 0 1\nm 1 1 2 2 3\nend\n",
+    ),
+    (
+        b"p graph 3 0\nend\n",
+        b"o layers\nk 1\nl 1 0 1\nm 1 1 1\nend\n",
+    ),
+    (
+        b"p closure 2 1\nv 1 3 1\nv 2 1 1\nr 1 2\nend\n",
+        b"o layers\nk 2\nl 1 1 1\nl 2 3 1\nm 2 1\nend\n",
+    ),
+    (LIGHT, b"o layers\nk 1\nl 1 3 2\nm 1 1\nend\n"),
+];
+
+// A text that `layers` refuses, and the line that says why.
+const NOT_LAYERED: [(&[u8], &[u8]); 5] = [
+    (THREE, b"ppart: line 1: wrong kind\n"),
+    (b"c\np closure 1\nend\n", b"ppart: line 2: syntax\n"),
+    (
+        b"p closure 2 0\nv 1 1 3\nend\n",
+        b"ppart: line 3: rule missing\n",
+    ),
+    (b"closure closure 1 0\n", b"ppart: line 1: syntax\n"),
+    (
+        b"p graph 2 1\ne 1 1 4\nend\n",
+        b"ppart: line 2: rule loop\n",
+    ),
+];
+
 // A number of trees, a text, and how the answer to `trees` begins. Where several answers are right, that is not all of it.
 const TREES: [(&str, &[u8], &[u8]); 5] = [
     ("2", COMPLETE, b"o trees\nk 2\nm "),
@@ -231,12 +300,28 @@ const TREES: [(&str, &[u8], &[u8]); 5] = [
     ("0500", EDGE, b"o trees\nk 500\nnone\ns 1 2\nc 1\nend\n"),
 ];
 
+// A level, a text, and how the answer to `reinforce` begins. Where several answers are right, that is not all of it.
+const REINFORCED: [(&str, &[u8], &[u8]); 3] = [
+    ("04/2", TRIANGLE, b"o reinforce\nd 2 1\nc 1\nx "),
+    (
+        "1/2",
+        EDGE,
+        b"o reinforce\nd 1 2\nc 0\nx 0\ny 1\nk 1\nt 1 1 1 1\nr 1 0\nr 2 1\nend\n",
+    ),
+    ("1/1", TWO_PAIRS, b"o reinforce\nnone\ns 1 1 2 2\nend\n"),
+];
+
 // Two words that are no command.
-const NO_COMMAND: [(&str, &str); 7] = [
+const NO_COMMAND: [(&str, &str); 12] = [
     ("trees", "0"),
     ("trees", "501"),
     ("trees", "-1"),
     ("check", "trees"),
+    ("check", "layers"),
+    ("layers", "2"),
+    ("reinforce", "-1/1"),
+    ("reinforce", "1/0"),
+    ("check", "reinforce"),
     ("generate", "-0"),
     ("generate", "18446744073709551616"),
     ("generate", ""),
@@ -335,6 +420,24 @@ fn answers_with_selections(rt: HostRuntime) -> Result<(), Fail> {
 }
 
 #[test]
+fn answers_with_shares(rt: HostRuntime) -> Result<(), Fail> {
+    let alloc = rt.alloc();
+    for (text, answer) in SHARES {
+        assert!(rt; is_answer(alloc, "share", text, answer)?);
+    }
+    let words = [String::from_str(alloc, "share")?];
+    for (text, line) in NOT_SHARED {
+        let mut source = MemSource::new(alloc, text, 16, &[])?;
+        let mut out = MemSink::new(alloc, 64, 10, &[])?;
+        let mut err = MemSink::new(alloc, 64, 10, &[])?;
+        let status = run(alloc, &words, &mut source, &mut out, &mut err);
+        assert_eq!(rt; status.code(), 3);
+        assert_eq!(rt; err.taken(), line);
+    }
+    Ok(())
+}
+
+#[test]
 fn answers_with_the_principal_partition(rt: HostRuntime) -> Result<(), Fail> {
     for (text, answer) in PARTITIONS {
         assert!(rt; is_answer(rt.alloc(), "partition", text, answer)?);
@@ -366,12 +469,45 @@ fn answers_with_the_densest_set(rt: HostRuntime) -> Result<(), Fail> {
 }
 
 #[test]
+fn answers_with_layers(rt: HostRuntime) -> Result<(), Fail> {
+    let alloc = rt.alloc();
+    for (text, answer) in LAYERS {
+        assert!(rt; is_answer(alloc, "layers", text, answer)?);
+    }
+    let words = [String::from_str(alloc, "layers")?];
+    for (text, line) in NOT_LAYERED {
+        let mut source = MemSource::new(alloc, text, 16, &[])?;
+        let mut out = MemSink::new(alloc, 64, 10, &[])?;
+        let mut err = MemSink::new(alloc, 64, 10, &[])?;
+        let status = run(alloc, &words, &mut source, &mut out, &mut err);
+        assert_eq!(rt; status.code(), 3);
+        assert_eq!(rt; err.taken(), line);
+    }
+    Ok(())
+}
+
+#[test]
 fn answers_about_trees(rt: HostRuntime) -> Result<(), Fail> {
     let alloc = rt.alloc();
     for (count, text, front) in TREES {
         let words = two_words(alloc, "trees", count)?;
         let mut source = MemSource::new(alloc, text, 16, &[])?;
         let mut out = MemSink::new(alloc, 64, 10, &[])?;
+        let mut err = MemSink::new(alloc, 64, 10, &[])?;
+        let status = run(alloc, &words, &mut source, &mut out, &mut err);
+        assert_eq!(rt; status, Status::Done);
+        assert!(rt; out.taken().starts_with(front));
+    }
+    Ok(())
+}
+
+#[test]
+fn answers_about_reinforcements(rt: HostRuntime) -> Result<(), Fail> {
+    let alloc = rt.alloc();
+    for (level, text, front) in REINFORCED {
+        let words = two_words(alloc, "reinforce", level)?;
+        let mut source = MemSource::new(alloc, text, 16, &[])?;
+        let mut out = MemSink::new(alloc, 128, 10, &[])?;
         let mut err = MemSink::new(alloc, 64, 10, &[])?;
         let status = run(alloc, &words, &mut source, &mut out, &mut err);
         assert_eq!(rt; status, Status::Done);

@@ -66,3 +66,9 @@ pub const LIGHT_AND_HEAVY: &[u8] = b"p graph 3 2\ne 1 2 1\ne 2 3 2\nend\n";
 
 pub const LIGHT_AND_HEAVY_PARTITION: &[u8] =
     b"o partition\nk 2\ns 0 1 1 1\nb 1 1 1 0\ns 1 1 2 2\nb 2 2 1 -1\ns 2 1 2 3\ny 1 1 1\nr 1 1 0 0\nr 1 2 1 0\nr 1 3 1 1\ny 2 1 2\nr 2 1 0 0\nr 2 2 1 0\nr 2 3 1 2\nend\n";
+
+/// Two sources that push through one node, the first by a narrow arc; and their fair shares.
+pub const NARROW: &[u8] = b"p share 4 3\nn 4 t\nw 1 1\nw 2 1\na 1 3 1\na 2 3 10\na 3 4 5\nend\n";
+
+pub const NARROW_SHARES: &[u8] =
+    b"o share\nk 2\nl 1 1 1\nl 2 4 1\nm 1 2 2 0\nx 1 1 1\nx 2 4 1\nf 1 4 5\nend\n";

@@ -1,15 +1,16 @@
 // Which command words ask for.
-ghost use Rattle.std.specs.Prelude.{◌≡◌, ◌+◌, ◌-◌, ◌*◌, ◌^◌, ◌≤◌, ◌==◌, true, Some, IfSome};
+ghost use Rattle.std.specs.Prelude.{◌≡◌, ◌+◌, ◌-◌, ◌*◌, ◌^◌, ◌≤◌, ◌==◌, ◌≤ℤ◌, pos, true, Some, IfSome};
 ghost use Rattle.std.specs.List.{position};
-ghost use Rattle.std.specs.Option.{option_map, option_and_then};
+ghost use Rattle.std.specs.Option.{option_map, option_and_then, option_or};
 ghost use Rattle.pf_model.specs.Fraction.{IsBoundedFraction, lowest};
-ghost use Rattle.pf_text.specs.Numbers.{is_digit, natural_of};
+ghost use Rattle.pf_text.specs.Numbers.{is_digit, natural_of, billion};
 ghost use Rattle.pf_text.specs.Words.{natural_within, parameter_of};
-ghost use Rattle.pf_top.specs.Job.{at, trees, named, answer, check, reads, draws};
-ghost use Rattle.pf_top.specs.Asked.{beside, names, first_words, command_of};
+ghost use Rattle.pf_top.specs.Job.{at, trees, reinforce, named, answer, check, reads, draws};
+ghost use Rattle.pf_top.specs.Asked.{beside, names, lone_words, level_of_parts, level_of, first_words, command_of};
 ghost use Rattle.pf_top.specs.Words.{word_bytes, command_of_request, fraction_of_parts};
 
 use crate::commands::at::At;
+use crate::commands::reinforce::Reinforce;
 use crate::commands::trees::Trees;
 use pf_lines::whole;
 use pf_rat::Rat;
@@ -29,6 +30,8 @@ pub enum Name {
     Select,
     /// The principal partition of a graph.
     Partition,
+    /// The fair shares of several sources.
+    Share,
 }
 
 /// What words ask for of a text.
@@ -38,6 +41,10 @@ pub enum TextRequest {
     At(At),
     /// So many trees, or what forbids them.
     Trees(Trees),
+    /// The least cost of the strength at one level, or what forbids it.
+    Reinforce(Reinforce),
+    /// The layers of a graph, or of items that need others.
+    Layers,
     /// The answer to the job of this name.
     Answer(Name),
     /// Whether a text certifies an answer to it.
@@ -54,6 +61,9 @@ pub enum Request {
 }
 
 const BILLION: i64 = 1_000_000_000;
+
+// The greatest number of a level.
+const MOST: u64 = 1_000_000_000;
 
 // The fraction in lowest terms.
 fn in_lowest_terms(p: i64, q: i64) -> Rat
@@ -141,6 +151,43 @@ fn natural(bytes: &[u8], least: u64, most: u64) -> Option<u64>
     Some(number)
 }
 
+// The level of the two numbers, in lowest terms.
+fn level_of_numbers(p: u64, q: u64) -> Reinforce
+    requires high { p ≤ billion }
+    requires some { 1 ≤ q }
+    requires most { q ≤ billion }
+    ensures { result ≡ lowest (record { p = pos p; q = pos q }) }
+{
+    Reinforce::new(Rat::new(i128::from(p), i128::from(q)))
+}
+
+// The level of the two texts of digits, if both numbers are in their ranges.
+fn level(front: &[u8], back: &[u8]) -> Option<Reinforce>
+    ensures { level_of_parts front.now back.now ≡ result }
+{
+    let Some(p) = natural(front, 0, MOST) else {
+        return None;
+    };
+    let Some(q) = natural(back, 1, MOST) else {
+        return None;
+    };
+    Some(level_of_numbers(p, q))
+}
+
+// The level `P/Q`, if both numbers are in their ranges.
+fn read_level(bytes: &[u8]) -> Option<Reinforce>
+    ensures { level_of bytes.now ≡ result }
+{
+    match first_slash(bytes) {
+        Some(slash) => {
+            let (front, _) = bytes.split_at(slash);
+            let (_, back) = bytes.split_at(slash + 1);
+            level(front, back)
+        }
+        None => None,
+    }
+}
+
 // The job of this name.
 fn name_of(word: &[u8]) -> Option<Name>
     ensures { beside names word.now ≡ result }
@@ -163,16 +210,30 @@ fn name_of(word: &[u8]) -> Option<Name>
     if word == b"partition".as_slice() {
         return Some(Name::Partition);
     }
+    if word == b"share".as_slice() {
+        return Some(Name::Share);
+    }
+    None
+}
+
+// What a word asks for that stands alone, if it is one that `check` does not know.
+fn lone_word(first: &[u8]) -> Option<Request>
+    ensures { beside lone_words first.now ≡ option_map command_of_request result }
+{
+    if first == b"layers".as_slice() {
+        return Some(Request::Text(TextRequest::Layers));
+    }
     None
 }
 
 // What one word asks for, if it has the form of a command.
 fn one_word(first: &[u8]) -> Option<Request>
-    ensures { option_map (λ name. reads (answer (named name))) (beside names first.now) ≡ option_map command_of_request result }
+    ensures { option_or (option_map (λ name. reads (answer (named name))) (beside names first.now)) (beside lone_words first.now)
+        ≡ option_map command_of_request result }
 {
     match name_of(first) {
         Some(name) => Some(Request::Text(TextRequest::Answer(name))),
-        None => None,
+        None => lone_word(first),
     }
 }
 
@@ -206,6 +267,16 @@ fn trees_word(second: &[u8]) -> Option<Request>
     }
 }
 
+// What `reinforce` asks for with this second word, if it is a level.
+fn reinforce_word(second: &[u8]) -> Option<Request>
+    ensures { option_map (λ x. reads (answer (reinforce x))) (level_of second.now) ≡ option_map command_of_request result }
+{
+    match read_level(second) {
+        Some(job) => Some(Request::Text(TextRequest::Reinforce(job))),
+        None => None,
+    }
+}
+
 // What `generate` asks for with this second word, if it is a seed.
 fn generate_word(second: &[u8]) -> Option<Request>
     ensures { option_map draws (natural_within 0 (2 ^ 64 - 1) (natural_of second.now)) ≡ option_map command_of_request result }
@@ -228,6 +299,9 @@ fn two_words(first: &[u8], second: &[u8]) -> Option<Request>
     }
     if first == b"trees".as_slice() {
         return trees_word(second);
+    }
+    if first == b"reinforce".as_slice() {
+        return reinforce_word(second);
     }
     if first == b"generate".as_slice() {
         return generate_word(second);

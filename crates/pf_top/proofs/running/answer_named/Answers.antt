@@ -17,3 +17,6 @@ returns-in-Select g c = rw c.in-Select.is c.answer-in-Select.ensures
 
 pub returns-in-Partition : goal.returns-in-Partition
 returns-in-Partition g c = rw c.in-Partition.is c.answer-in-Partition.ensures
+
+pub returns-in-Share : goal.returns-in-Share
+returns-in-Share g c = rw c.in-Share.is c.answer-in-Share.ensures

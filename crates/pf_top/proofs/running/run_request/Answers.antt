@@ -6,6 +6,12 @@ returns-in-At g c = rw c.in-At.is c.answer.ensures
 pub returns-in-Trees : goal.returns-in-Trees
 returns-in-Trees g c = rw c.in-Trees.is c.answer-in-Trees.ensures
 
+pub returns-in-Reinforce : goal.returns-in-Reinforce
+returns-in-Reinforce g c = rw c.in-Reinforce.is c.answer-in-Reinforce.ensures
+
+pub returns-in-Layers : goal.returns-in-Layers
+returns-in-Layers g c = rw c.in-Layers.is c.answer-in-Layers.ensures
+
 pub returns-in-Answer : goal.returns-in-Answer
 returns-in-Answer g c = rw c.in-Answer.is c.answer_named.ensures
 
