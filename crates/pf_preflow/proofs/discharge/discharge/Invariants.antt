@@ -1,18 +1,17 @@
-use Rattle.std.proofs.Common.{◌≡◌, ℕ, ◌<◌, ◌≤◌}
-use Rattle.pf_model.specs.Digraph.{network_of}
-use Rattle.pf_preflow.specs.Engine.{IsActiveAt}
+use Rattle.std.proofs.Common.{ℕ, List}
 use Rattle.pf_preflow.specs.Labels.{HasCounted}
-use Rattle.pf_preflow.specs.State.{IsState, work}
+use Rattle.pf_preflow.specs.Network.{flow_network}
+use Rattle.pf_preflow.specs.Room.{Serves}
+use Rattle.pf_preflow.specs.State.{IsState, IsNextActive, work}
 use Rattle.pf_preflow.proofs.discharge.discharge.Given as goal
 
 abbrev pub invariant-discharge : goal.invariant-discharge
 invariant-discharge g l = record {
-  state : IsState (network_of l.frame l.caps l.s l.t) l.flow l.labels l.excess;
-  queue : l.queue.nodes ≡ l.frame.nodes;
-  active : l.v < l.frame.nodes → IsActiveAt l.s l.t l.excess l.v;
-  none : l.frame.nodes ≤ l.v → (u : ℕ) → u < l.frame.nodes → IsActiveAt l.s l.t l.excess u → ⊥;
-  counted : HasCounted l.fn.labels l.labels l.fn.steps l.steps;
+  state : IsState (flow_network l.net) l.flow l.labels l.room.excess.items;
+  room : Serves l.room l.net.frame.now.nodes;
+  next : IsNextActive l.net.source l.net.sink l.room.excess.items l.v;
+  counted : (start : List ℕ) (before : ℕ) → HasCounted start l.fn.labels before l.fn.steps → HasCounted start l.labels before l.steps;
 }
 
 abbrev pub decreases-discharge : goal.decreases-discharge
-decreases-discharge g l = work (network_of l.frame l.caps l.s l.t) l.flow l.labels
+decreases-discharge g l = work (flow_network l.net) l.flow l.labels
