@@ -2,7 +2,7 @@
 ghost use Rattle.std.specs.Prelude.{◌≡◌, ◌+◌, ◌<◌, ◌↔◌, IsTrue, All, length};
 ghost use Rattle.std.specs.Bool.{OnTrue};
 ghost use Rattle.pf_model.specs.Network.{IsNetworkCut};
-ghost use Rattle.pf_model.specs.Curve.{IsDivision, IsCurve, CertifiesCurve, Meets, cut_at, flow_at};
+ghost use Rattle.pf_model.specs.Curve.{IsDivision, IsCurve, CertifiesCurve, Meets, own_point, cut_at, flow_at};
 ghost use Rattle.pf_frame.specs.Numbers.{IsBounded};
 ghost use Rattle.pf_frame.specs.Scratch.{Serves, KeepsPlaces};
 ghost use Rattle.pf_net.specs.Limits.{digraph_of};
@@ -13,7 +13,7 @@ use crate::flows::are_flows;
 use crate::points::is_division;
 use pf_curve::Curve;
 use pf_frame::{Scratch, reach, value};
-use pf_net::Net;
+use pf_net::{Net, Sense};
 
 // Whether the value of the flow at point `j` is the capacity of cut `i` there, both in units of `1/q` of that point `p/q`.
 fn meets(net: &Net, curve: &Curve, j: usize, i: usize) -> bool
@@ -65,6 +65,20 @@ fn is_reached(
     is_same_side(side, curve.cut(i))
 }
 
+// The number of the point whose flow reaches cut `i`: the right one in a rising network, the left one in a falling one.
+fn own_place(net: &Net, curve: &Curve, i: usize) -> usize
+    requires { i < length curve.now.cuts }
+    ensures own { result ≡ own_point net.now.sense i }
+    ensures known { result < length curve.now.points }
+{
+    // It tells the numbers of points and cuts.
+    let _ = curve.points();
+    match net.sense() {
+        Sense::Rising => i + 1,
+        Sense::Falling => i,
+    }
+}
+
 // Whether cut `i` is certified by the flows at its left and its right point.
 fn certifies_cut(
     net: &Net,
@@ -93,7 +107,8 @@ fn certifies_cut(
     if !meets(net, curve, i + 1, i) {
         return false;
     }
-    is_reached(net, curve, i + 1, i, scratch, caps, side)
+    let own = own_place(net, curve, i);
+    is_reached(net, curve, own, i, scratch, caps, side)
 }
 
 // Whether each cut is certified.
@@ -124,9 +139,10 @@ fn certifies_cuts(
 
 /// Whether the lists of the curve certify it: the points divide the network's interval, each side is a cut, slopes fall
 /// strictly, at each point `p/q` there is a flow whose value is the capacity of both neighbouring cuts, in units of `1/q`, and
-/// each cut is what the flow at its right point still reaches. Then they are the whole least-cut function of the network. Any
-/// values may stand in them. Cuts are indexed by node, flows by arc. `caps` and `side` are working room, with one place per
-/// arc and one per node; what stands there has no meaning before or after.
+/// each cut is what the flow at its own point still reaches: the right one in a rising network, the left one in a falling one.
+/// Then they are the whole least-cut function of the network. Any values may stand in them. Cuts are indexed by node, flows by
+/// arc. `caps` and `side` are working room, with one place per arc and one per node; what stands there has no meaning before
+/// or after.
 pub fn check_curve(
     net: &Net,
     curve: &Curve,

@@ -1,4 +1,4 @@
-// Curves that are written out, over the network of three nodes in a row whose first arc grows with the parameter.
+// Curves that are written out, over the network of three nodes in a row whose first arc grows or falls with the parameter.
 ghost use Rattle.std.specs.Prelude.{◌≡◌, ◌<◌, [], ◌∷◌, All, IfOk, length, slice_set};
 ghost use Rattle.pf_model.specs.Curve.{flow_at};
 
@@ -118,5 +118,51 @@ fn found_curve(rt: HostRuntime) -> Result<(), Fail> {
     let mut caps = [0i128; 2];
     let mut side = [false; 3];
     assert!(rt; check_curve(&net, &curve, &mut scratch, &mut caps, &mut side));
+    Ok(())
+}
+
+// The first arc falls with the parameter.
+fn three_falling_nodes(alloc: Global) -> Result<Net, Fail>
+    ensures nodes { IfOk result (λ net. net.nodes ≡ 3) }
+    ensures arcs { IfOk result (λ net. length net.arcs ≡ 2) }
+{
+    let first = AffineArc {
+        tail: 0,
+        head: 1,
+        a: 10,
+        b: -1,
+    };
+    let second = AffineArc {
+        tail: 1,
+        head: 2,
+        a: 4,
+        b: 0,
+    };
+    let arcs = [first, second];
+    Ok(Net::build_falling(alloc, 3, 0, 2, Rat::new(0, 1), Rat::new(10, 1), &arcs)?)
+}
+
+#[test]
+fn found_curve_of_a_falling_network(rt: HostRuntime) -> Result<(), Fail> {
+    let net = three_falling_nodes(rt.alloc())?;
+    let curve = curve_of(rt.alloc(), &net)?;
+    let mut scratch = Scratch::make(rt.alloc(), 3, 2)?;
+    let mut caps = [0i128; 2];
+    let mut side = [false; 3];
+    assert!(rt; check_curve(&net, &curve, &mut scratch, &mut caps, &mut side));
+    Ok(())
+}
+
+#[test]
+fn cuts_in_the_order_of_a_rising_network(rt: HostRuntime) -> Result<(), Fail> {
+    let net = three_falling_nodes(rt.alloc())?;
+    let points = three_points(rt.alloc(), Rat::new(6, 1))?;
+    let cuts = two_cuts(rt.alloc())?;
+    let flows = three_flows(rt.alloc(), 4, 0, 0)?;
+    let curve = Curve::new(points, cuts, flows);
+    let mut scratch = Scratch::make(rt.alloc(), 3, 2)?;
+    let mut caps = [0i128; 2];
+    let mut side = [false; 3];
+    assert!(rt; !check_curve(&net, &curve, &mut scratch, &mut caps, &mut side));
     Ok(())
 }

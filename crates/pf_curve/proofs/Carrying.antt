@@ -1,12 +1,11 @@
 -- A flow at one parameter of the interval is within the bounds within which it is carried to another.
-use Rattle.std.proofs.Common.{◌≡◌, ℕ, ◌*◌, ◌<◌, ◌≤◌, ◌^◌, List, length, get_or, map, refl, arith, sym, ◌∙◌, ap, to_z, of_z}
+use Rattle.std.proofs.Common.{◌≡◌, ℕ, ◌<◌, ◌^◌, List, length, get_or, arith, ◌∙◌, to_z, of_z}
 use Rattle.std.specs.Prelude.{ℤ, ◌*ℤ◌, ◌≤ℤ◌, neg_ℤ, pos, nat_abs}
 use Rattle.std.proofs.lemmas.Int.{ints}
 use Rattle.std.proofs.lemmas.List.{length-map, get_or-map}
 use Rattle.pf_model.specs.declared.AffineArc.{AffineArc}
 use Rattle.pf_model.specs.Fraction.{Fraction, IsParameter, IsBoundedFraction}
 use Rattle.pf_model.specs.Limits.{most_end}
-use Rattle.pf_model.specs.Cut.{at_arc}
 use Rattle.pf_model.specs.Flow.{IsFlow, IsPreflow}
 use Rattle.pf_model.specs.Digraph.{Digraph, network_of}
 use Rattle.pf_model.specs.Network.{Network, IsInInterval, network_at, capacity_at, ends_of}

@@ -1,5 +1,6 @@
 -- The smallest least cut between two others, through the part of the network between them.
 use Rattle.std.proofs.Common.{◌≡◌, List, Bool, sym, subst}
+use Rattle.pf_model.specs.declared.Sense.TheVariants.{Rising}
 use Rattle.pf_model.specs.Fraction.{Fraction, IsParameter, IsAtMost}
 use Rattle.pf_model.specs.Line.{AffineLine}
 use Rattle.pf_model.specs.Cut.{IsSmallestLeast}
@@ -32,14 +33,15 @@ cut_of net x side s =
     record { full = cut.full; with_source = cut.with_source; without_sink = cut.without_sink }
 
 -- the lift of what was found in the piece
-pub smallest_found : (part : Between) (net : Network) (x : Fraction) (side lifted : List Bool) → IsBuilt net → net ≡ part.net → AreEndsAt part x →
+pub smallest_found : (part : Between) (net : Network) (x : Fraction) (side lifted : List Bool) → IsBuilt net → net ≡ part.net → part.net.sense ≡ Rising → AreEndsAt part x →
     IsSmallestLeast (network_at (piece_of part) x) side → IsLift part side lifted → IsSmallestLeast (network_at part.net x) lifted
-smallest_found part net x side lifted b e ends s lift =
+smallest_found part net x side lifted b e rising ends s lift =
     let built = subst IsBuilt e b in
-    smallest_lifts part x side lifted built.monotone built.rising ends s lift
+    smallest_lifts part x side lifted built.monotone rising ends s lift
 
-pub nested_ends : (net : Network) (small large : List Bool) (x : Fraction) → IsBuilt net → AreEndsAt (whole net small large) x → AreNested net small large
-nested_ends net small large x b ends = ends_are_nested (whole net small large) x b.monotone b.rising ends
+pub nested_ends : (net : Network) (small large : List Bool) (x : Fraction) → IsBuilt net → net.sense ≡ Rising → AreEndsAt (whole net small large) x →
+    AreNested net small large
+nested_ends net small large x b rising ends = ends_are_nested (whole net small large) x b.monotone rising ends
 
 -- two neighbours found at either side of a parameter
 pub ends_between : (net : Network) (x left right l r : Fraction) (line line' : AffineLine) (small large : List Bool) → IsParameter x →

@@ -5,6 +5,7 @@ use Rattle.std.proofs.lemmas.Int.{ints}
 use Rattle.std.proofs.lemmas.Bool.{cases_Bool}
 use Rattle.std.proofs.lemmas.List.{length-set, length-replicate}
 use Rattle.pf_model.specs.declared.AffineArc.{AffineArc}
+use Rattle.pf_model.specs.declared.Sense.TheVariants.{Rising}
 use Rattle.pf_model.specs.Fraction.{Fraction}
 use Rattle.pf_model.specs.Line.{AffineLine, IsBoundedLine}
 use Rattle.pf_model.specs.Cut.{IsSmallestLeast, has, sum_where, leaves}
@@ -132,11 +133,11 @@ pub record IsLineLifted (net : Network) (lifted : List Bool) (a b : ℤ) : Type 
   pub bounded : IsBoundedLine (line_of net lifted)
 
 pub line_lifted : (part : Between) (net : Network) (x : Fraction) (line : AffineLine) (side lifted : List Bool) (a b : ℤ) → IsBuilt net → net ≡ part.net →
-    AreEndsAt part x → line ≡ line_of part.net part.small → IsChosen part x side a b → IsLift part side lifted →
+    part.net.sense ≡ Rising → AreEndsAt part x → line ≡ line_of part.net part.small → IsChosen part x side a b → IsLift part side lifted →
     IsLineLifted part.net lifted (line.a +ℤ a) (line.b +ℤ b)
-line_lifted part net x line side lifted a b built e ends is chosen lift =
+line_lifted part net x line side lifted a b built e rising ends is chosen lift =
     let here = subst IsBuilt e built in
-    let nested = ends_are_nested part x here.monotone here.rising ends in
+    let nested = ends_are_nested part x here.monotone rising ends in
     let cut = cut_of (piece_of part) x side chosen.smallest in
     let mine = line_lifts part side lifted nested cut lift in
     let theirs = line_lifts part (source_alone (piece_of part).nodes) part.small nested (alone_cut (piece_of part) refl refl (piece_few part)) (alone_lifts part nested) in

@@ -3,6 +3,7 @@ use Rattle.std.proofs.Common.{◌≡◌, ℕ, zero, suc, ◌+◌, ◌<◌, ◌�
 use Rattle.std.specs.Prelude.{ℤ, All}
 use Rattle.std.proofs.lemmas.Int.{ints}
 use Rattle.std.proofs.lemmas.List.{length-map, get_or-map, get_or_default}
+use Rattle.pf_model.specs.declared.Sense.TheVariants.{Rising}
 use Rattle.pf_model.specs.Fraction.{Fraction, IsParameter, IsBelow}
 use Rattle.pf_model.specs.Line.{AffineLine, value_at}
 use Rattle.pf_model.specs.Cut.{IsLeast}
@@ -181,6 +182,11 @@ all_inside net points cuts m c = λ i d low.
     let P : Fraction → Type 0 = λ x. IsInInterval net x in
     subst P (get_or_default points i net.low d low) here
 
+-- the same, as the code calls it
+pub points_inside : (net found : Network) (points got : List Fraction) (cuts : List (List Bool)) → IsMonotone net → IsCurve net points cuts → found ≡ net → got ≡ points →
+    All (IsInInterval found) got
+points_inside net found points got cuts m curve is_net is_points = rw (is_net, is_points) (all_inside net points cuts m curve)
+
 pub all_cuts : (net : Network) (points : List Fraction) (cuts : List (List Bool)) → IsCurve net points cuts → All (IsNetworkCut net) cuts
 all_cuts net points cuts c = λ i d low.
     let cut = (c.smallest i low).least.cut in
@@ -199,15 +205,17 @@ shape_of_curve net points cuts flows c shape best = record {
   flows = best.shape;
 }
 
-pub end_served : (net : Network) (x : Fraction) → IsMonotone net → x ≡ net.low → IsServed net x
-end_served net x m e = record {
+pub end_served : (net : Network) (x : Fraction) → IsMonotone net → net.sense ≡ Rising → x ≡ net.low → IsServed net x
+end_served net x m rising e = record {
+  rising = rising;
   inside = record { parameter = rw e m.low; low = rw e (at_most_reflexive net.low); high = let interval = m.interval in rw e (omega (arith, ints, interval)) };
   low = m.low;
   high = m.high;
 }
 
-pub high_end_served : (net : Network) (x : Fraction) → IsMonotone net → x ≡ net.high → IsServed net x
-high_end_served net x m e = record {
+pub high_end_served : (net : Network) (x : Fraction) → IsMonotone net → net.sense ≡ Rising → x ≡ net.high → IsServed net x
+high_end_served net x m rising e = record {
+  rising = rising;
   inside = record { parameter = rw e m.high; low = let interval = m.interval in rw e (omega (arith, ints, interval)); high = rw e (at_most_reflexive net.high) };
   low = m.low;
   high = m.high;

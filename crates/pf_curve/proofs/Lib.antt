@@ -6,3 +6,4 @@ pub mod Carrying
 pub mod Pushing
 pub mod Contracting
 pub mod CoreLines
+pub mod TurnedCurves

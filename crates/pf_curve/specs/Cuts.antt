@@ -1,5 +1,6 @@
 -- The cuts of a network and their lines.
 use Rattle.std.specs.Prelude.{◌≡◌, ℕ, ℤ, ◌+ℤ◌, List, Bool, true, false, set, replicate}
+use Rattle.pf_model.specs.declared.Sense.TheVariants.{Rising}
 use Rattle.pf_model.specs.Fraction.{Fraction, IsParameter}
 use Rattle.pf_model.specs.Line.{AffineLine}
 use Rattle.pf_model.specs.Cut.{IsSmallestLeast}
@@ -18,8 +19,9 @@ pub record IsLineOfCut (net : Network) (line : AffineLine) : Type 0 where
   pub cut : IsNetworkCut net side
   pub line_is : line ≡ line_of net side
 
--- a parameter of the interval, whose ends are parameters
+-- a parameter of the interval of a rising network, whose ends are parameters
 pub record IsServed (net : Network) (x : Fraction) : Type 0 where
+  pub rising : net.sense ≡ Rising
   pub inside : IsInInterval net x
   pub low : IsParameter net.low
   pub high : IsParameter net.high

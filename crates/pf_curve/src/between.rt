@@ -1,5 +1,6 @@
-// The smallest least cut between two others, found in the part of the network that lies between them.
+// The smallest least cut between two others of a rising network, found in the part of the network that lies between them.
 ghost use Rattle.std.specs.Prelude.{◌≡◌, ◌≤◌, ◌+ℤ◌, false, length, nat_abs, replicate, ◌^◌, IfOk};
+ghost use Rattle.pf_model.specs.declared.Sense.TheVariants.{Rising};
 ghost use Rattle.pf_model.specs.Cut.{IsSmallestLeast};
 ghost use Rattle.pf_model.specs.Network.{IsInInterval, cut_a, cut_b, line_of, network_at};
 ghost use Rattle.pf_envelope.specs.Envelope.{IsLeastAt};
@@ -85,6 +86,7 @@ fn write_lifted(
     at: &Rat,
     side: &mut [bool],
 ) -> Line
+    requires rising { piece.now.net.sense ≡ Rising }
     requires ends { AreEndsAt piece.now at.now }
     requires line { line.now ≡ line_of piece.now.net piece.now.small }
     requires chosen { IsChosen piece.now at.now chosen.now.side.items chosen.now.a chosen.now.b }
@@ -106,6 +108,7 @@ fn lifted(
     chosen: &Chosen,
     at: &Rat,
 ) -> Result<Cut, NoMemory>
+    requires rising { piece.now.net.sense ≡ Rising }
     requires inside { IsInInterval piece.now.net at.now }
     requires ends { AreEndsAt piece.now at.now }
     requires line { line.now ≡ line_of piece.now.net piece.now.small }
@@ -124,8 +127,8 @@ fn lifted(
     })
 }
 
-/// The smallest least cut at a parameter between two, where the sides are the smallest least cuts at these, and `line` is that of
-/// the small one.
+/// The smallest least cut of a rising network at a parameter between two, where the sides are the smallest least cuts at these,
+/// and `line` is that of the small one.
 pub fn find_between(
     alloc: Global,
     net: &Net,
@@ -135,6 +138,7 @@ pub fn find_between(
     small: &[bool],
     large: &[bool],
 ) -> Result<Cut, NoMemory>
+    requires rising { net.now.sense ≡ Rising }
     requires inside { IsInInterval net.now at.now }
     requires line { line.now ≡ line_of net.now small.now }
     requires ends { AreEndsAt (record { net = net.now; small = small.now; large = large.now }) at.now }

@@ -1,9 +1,12 @@
 // The whole least-cut function.
-ghost use Rattle.std.specs.Prelude.{◌≡◌, ◌+◌, ◌<◌, ◌≤◌, length};
+ghost use Rattle.std.specs.Prelude.{◌≡◌, ◌+◌, ◌<◌, ◌≤◌, length, reverse, IfOk};
 ghost use Rattle.pf_model.specs.Curve.{cut_at, flow_at};
+ghost use Rattle.pf_model.specs.Mirror.{turned_points};
 
-use pf_frame::{FlowTable, List, Side};
+use crate::turning::{turned, turned_points};
+use pf_frame::{FlowTable, List, NoMemory, Numbers, Side};
 use pf_rat::Rat;
+use std::alloc::Global;
 use std::marker::Model;
 
 /// A list of parameters.
@@ -11,6 +14,9 @@ pub type Points = List<Rat>;
 
 /// A list of sides.
 pub type Sides = List<Side>;
+
+/// A list of flows.
+pub type Rows = List<Numbers>;
 
 /// Points, and a cut between each and the next: the least-cut function without flows. Cuts are indexed by node.
 #[derive(Drop)]
@@ -53,6 +59,15 @@ impl CutFunction {
         ensures { result.now ≡ cut_at self.now.cuts i }
     {
         self.cuts.get()[i].get()
+    }
+
+    /// The same seen from the other end: the points negated and in reverse order, and the cuts in reverse order.
+    pub(crate) fn turned(self, alloc: Global) -> Result<CutFunction, NoMemory>
+        ensures { IfOk result (λ c. c ≡ record { points = turned_points self.points; cuts = reverse self.cuts }) }
+    {
+        let CutFunction { points, cuts } = self;
+        let made = turned_points(alloc, points.get())?;
+        Ok(CutFunction::new(made, turned(cuts)))
     }
 
     /// The same with a flow at each point.

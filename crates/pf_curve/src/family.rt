@@ -1,4 +1,4 @@
-// The family of the smallest least cuts of a network, over which the envelope is found.
+// The family of the smallest least cuts of a rising network, over which the envelope is found.
 ghost use Rattle.std.specs.Prelude.{◌≡◌, List, Bool, length, IfOk};
 ghost use Rattle.pf_model.specs.Fraction.{Fraction};
 ghost use Rattle.pf_model.specs.Line.{AffineLine};
@@ -126,6 +126,7 @@ impl<'a> Family for Cuts<'a> {
     ghost serves_parameters = { λ s x h. h.inside.parameter };
 
     ghost serves_between = { λ s x y z h from to order order'. record {
+      rising = from.rising;
       inside = record {
         parameter = h;
         low = at_most_trans s.low x z from.low from.inside.parameter h from.inside.low order;

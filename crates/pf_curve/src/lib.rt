@@ -10,6 +10,7 @@ mod point;
 mod single;
 #[cfg(test)]
 mod tests;
+mod turning;
 mod whole;
 
 pub use curve::{Curve, CutFunction, Points, Sides};

@@ -89,7 +89,7 @@ abbrev interval : ParameterInterval
 interval = record { low = record { p = pos 0; q = pos 1 }; high = record { p = pos 1000; q = pos 1 } }
 
 abbrev state : ℕ → ℕ → Option ParameterInterval → Option ℕ → Option ℕ → ℕ → List AffineArc → State Given
-state n m i s t count arcs = record { header_numbers = pos n ∷ pos m ∷ []; counted_lines = count; given = record { interval = i; source = s; sink = t; arcs = arcs } }
+state n m i s t count arcs = record { header_numbers = pos n ∷ pos m ∷ []; counted_lines = count; given = record { interval = i; source = s; sink = t; sense = None; arcs = arcs } }
 
 header_read : (n m k : ℕ) (rest : List ℕ) → 3 ≤ n → n ≤ 1000 → m ≤ 10000
     → header par (spelled k (codes "p" ∷ codes "par" ∷ decimal n ∷ decimal m ∷ []) rest) ≡ Ok (state n m None None None 0 [])
@@ -114,7 +114,7 @@ source_read : (n m k : ℕ) (rest : List ℕ) → 3 ≤ n
     → step par (state n m (Some interval) None None 0 []) (spelled k (codes "n" ∷ codes "1" ∷ codes "s" ∷ []) rest) ≡ Ok (state n m (Some interval) (Some 0) None 0 [])
 source_read n m k rest low =
     step_ok par (state n m (Some interval) None None 0 []) (spelled k (codes "n" ∷ codes "1" ∷ codes "s" ∷ []) rest)
-    (record { form = end_form Source (pos n ∷ pos m ∷ []); numbers = pos 1 ∷ [] }) (record { interval = Some interval; source = Some 0; sink = None; arcs = [] })
+    (record { form = end_form Source (pos n ∷ pos m ∷ []); numbers = pos 1 ∷ [] }) (record { interval = Some interval; source = Some 0; sink = None; sense = None; arcs = [] })
     (source_found n m) (range_ok (pos 1) (pos n) (pos 1) (word (codes "s") ∷ []) [] (within 1 n 1 (omega arith) (omega arith)) refl) refl refl
 
 sink_found : (n m : ℕ) → whole_of (decimal n) ≡ Some (pos n)
@@ -123,14 +123,14 @@ unfolding par
 sink_found n m e = rw e refl
 
 sink_rules_ok : (n : ℕ) → 3 ≤ n
-    → end_rules Sink (pos n ∷ []) (record { interval = Some interval; source = Some 0; sink = None; arcs = [] }) ≡ Ok (record { interval = Some interval; source = Some 0; sink = Some (n - 1); arcs = [] })
+    → end_rules Sink (pos n ∷ []) (record { interval = Some interval; source = Some 0; sink = None; sense = None; arcs = [] }) ≡ Ok (record { interval = Some interval; source = Some 0; sink = Some (n - 1); sense = None; arcs = [] })
 sink_rules_ok n low = let e : eqb 0 (n - 1) ≡ false = other 0 (n - 1) (λ same. omega arith) in rw e refl
 
 sink_read : (n m k : ℕ) (rest : List ℕ) → 3 ≤ n → n ≤ 1000
     → step par (state n m (Some interval) (Some 0) None 0 []) (spelled k (codes "n" ∷ decimal n ∷ codes "t" ∷ []) rest) ≡ Ok (state n m (Some interval) (Some 0) (Some (n - 1)) 0 [])
 sink_read n m k rest low high =
     step_ok par (state n m (Some interval) (Some 0) None 0 []) (spelled k (codes "n" ∷ decimal n ∷ codes "t" ∷ []) rest)
-    (record { form = end_form Sink (pos n ∷ pos m ∷ []); numbers = pos n ∷ [] }) (record { interval = Some interval; source = Some 0; sink = Some (n - 1); arcs = [] })
+    (record { form = end_form Sink (pos n ∷ pos m ∷ []); numbers = pos n ∷ [] }) (record { interval = Some interval; source = Some 0; sink = Some (n - 1); sense = None; arcs = [] })
     (sink_found n m (small_whole n (omega arith))) (range_ok (pos 1) (pos n) (pos n) (word (codes "t") ∷ []) [] (within 1 n n (omega arith) (omega arith)) refl) refl (sink_rules_ok n low)
 
 -- ---- an arc
@@ -162,10 +162,10 @@ neither true b ea eb = absurd cc
 neither false b ea eb = eb
 
 abbrev given : ℕ → List AffineArc → Given
-given n arcs = record { interval = Some interval; source = Some 0; sink = Some (n - 1); arcs = arcs }
+given n arcs = record { interval = Some interval; source = Some 0; sink = Some (n - 1); sense = None; arcs = arcs }
 
 rules_ok : (n : ℕ) (arc : AffineArc) (arcs : List AffineArc) → IsTaken n arc
-    → arc_rules_by (Some interval) (Some 0) (Some (n - 1)) arc (given n arcs) ≡ Ok (given n (arcs ++ arc ∷ []))
+    → arc_rules_by Rising (Some interval) (Some 0) (Some (n - 1)) arc (given n arcs) ≡ Ok (given n (arcs ++ arc ∷ []))
 rules_ok n arc arcs taken =
     kept_on (not (keeps_slope Rising 0 (n - 1) arc)) Monotone _ (ap not taken.slope)
     ∙ kept_on (int_lt (capacity_at interval.low arc) (pos 0) || int_lt (capacity_at interval.high arc) (pos 0)) Negative _
@@ -177,7 +177,7 @@ back v = omega arith
 arc_rules_ok : (n : ℕ) (arc : AffineArc) (arcs : List AffineArc) → IsTaken n arc
     → arc_rules (pos (arc.tail + 1) ∷ pos (arc.head + 1) ∷ arc.a ∷ arc.b ∷ []) (given n arcs) ≡ Ok (given n (arcs ++ arc ∷ []))
 arc_rules_ok n arc arcs taken =
-    let by : ℕ → ℕ → Result Given RuleKind = λ tail head. arc_rules_by (Some interval) (Some 0) (Some (n - 1)) (record { tail = tail; head = head; a = arc.a; b = arc.b }) (given n arcs) in
+    let by : ℕ → ℕ → Result Given RuleKind = λ tail head. arc_rules_by Rising (Some interval) (Some 0) (Some (n - 1)) (record { tail = tail; head = head; a = arc.a; b = arc.b }) (given n arcs) in
     ap (λ tail. by tail ((arc.head + 1) - 1)) (back arc.tail) ∙ ap (λ head. by arc.tail head) (back arc.head) ∙ rules_ok n arc arcs taken
 
 arc_read : (n m k count : ℕ) (arc : AffineArc) (arcs : List AffineArc) (rest : List ℕ) → n ≤ 1000 → count < m → IsTaken n arc

@@ -7,7 +7,6 @@ use Rattle.std.proofs.lemmas.Bool.{or_parts, ltb-false, leb-false, eq-eqb}
 use Rattle.std.proofs.lemmas.List.{length-map, get_or-map}
 use Rattle.std.proofs.lemmas.List.Elements.{All-nil, All-cons}
 use Rattle.pf_model.specs.declared.AffineArc.{AffineArc}
-use Rattle.pf_model.specs.declared.Sense.TheVariants.{Rising}
 use Rattle.pf_model.specs.Fraction.{Fraction, IsParameter, IsBelow, is_below}
 use Rattle.pf_model.specs.Network.{Network, IsMonotone, IsMonotoneArc, capacity_at, keeps_slope, ends_of}
 use Rattle.pf_model.specs.Digraph.{IsDigraph}
@@ -96,14 +95,13 @@ apart s t h e = let same = eq-eqb s t e in cc
 below : (x y : Fraction) → is_below x y ≡ true → IsBelow x y
 below x y h = grind (arith, ints)
 
-pub built : (net : Network) → net.sense ≡ Rising → net.source < net.nodes → net.sink < net.nodes → IsParameter net.low → IsParameter net.high →
+pub built : (net : Network) → net.source < net.nodes → net.sink < net.nodes → IsParameter net.low → IsParameter net.high →
     refusal_of net ≡ None → IsBuilt net
-built net rising source sink low high h =
+built net source sink low high h =
     let a = passed (is_too_big net) TooBig _ h in
     let b = passed (net.source == net.sink) SameEnds _ a.1 in
     let d = passed (not (is_below net.low net.high)) EmptyInterval _ b.1 in
     record {
-      rising = rising;
       monotone = record {
         source = source;
         sink = sink;

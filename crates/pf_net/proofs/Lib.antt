@@ -3,3 +3,4 @@ pub mod LineSums
 pub mod Fronts
 pub mod FirstRefusal
 pub mod Built
+pub mod MirrorLemmas

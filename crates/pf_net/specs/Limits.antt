@@ -1,7 +1,8 @@
 -- The limits within which a network's numbers stay.
 use Rattle.std.specs.Prelude.{◌≡◌, ℕ, ◌≤◌, ◌^◌, ◌≤ℤ◌, ◌*ℤ◌, neg_ℤ, pos, List, length, All, map}
 use Rattle.pf_model.specs.declared.AffineArc.{AffineArc}
-use Rattle.pf_model.specs.declared.Sense.TheVariants.{Rising}
+use Rattle.pf_model.specs.declared.Sense.{Sense}
+use Rattle.pf_model.specs.declared.Sense.TheVariants.{Rising, Falling}
 use Rattle.pf_model.specs.Fraction.{Fraction}
 use Rattle.pf_model.specs.Limits.{most_nodes, most_arcs, most_constant, most_slope, most_end}
 use Rattle.pf_model.specs.Digraph.{Digraph}
@@ -25,13 +26,19 @@ pub record IsWithinLimits (net : Network) : Type 0 where
   pub low : IsNear net.low
   pub high : IsNear net.high
 
--- the rising network of these numbers
+-- the network of this sense and of these numbers
+abbrev pub with_sense : Sense → ℕ → ℕ → ℕ → Fraction → Fraction → List AffineArc → Network
+with_sense sense n s t low high arcs = record { nodes = n; source = s; sink = t; sense = sense; low = low; high = high; arcs = arcs }
+
+-- the rising network of these numbers, and the falling one
 abbrev pub rising : ℕ → ℕ → ℕ → Fraction → Fraction → List AffineArc → Network
 rising n s t low high arcs = record { nodes = n; source = s; sink = t; sense = Rising; low = low; high = high; arcs = arcs }
 
+abbrev pub falling : ℕ → ℕ → ℕ → Fraction → Fraction → List AffineArc → Network
+falling n s t low high arcs = record { nodes = n; source = s; sink = t; sense = Falling; low = low; high = high; arcs = arcs }
+
 -- what holds of every network that is built
 pub record IsBuilt (net : Network) : Type 0 where
-  pub rising : net.sense ≡ Rising
   pub monotone : IsMonotone net
   pub limits : IsWithinLimits net
 

@@ -2,15 +2,14 @@
 ghost use Rattle.std.specs.Prelude.{◌≡◌, ◌<◌, ◌≤◌, pos, ◌<ℤ◌, List, false, ◌||◌};
 ghost use Rattle.std.specs.List.{list_any};
 ghost use Rattle.pf_model.specs.declared.AffineArc.{AffineArc};
-ghost use Rattle.pf_model.specs.declared.Sense.TheVariants.{Rising};
 ghost use Rattle.pf_model.specs.Fraction.{IsParameter};
-ghost use Rattle.pf_model.specs.Network.{capacity_at, keeps_slope};
-ghost use Rattle.pf_net.specs.Limits.{IsSmallArc, rising};
+ghost use Rattle.pf_model.specs.Network.{capacity_at, fits_source, fits_sink, keeps_slope};
+ghost use Rattle.pf_net.specs.Limits.{IsSmallArc, with_sense};
 ghost use Rattle.pf_net.specs.Refusal.{is_large, is_far, is_too_big, arc_refusal, arcs_refusal, refusal_of};
 
 use crate::net::NetBad;
 use pf_frame::{MOST_ARCS, MOST_NODES};
-use pf_model::AffineArc;
+use pf_model::{AffineArc, Sense};
 use pf_rat::Rat;
 
 // A coefficient is past its limit.
@@ -42,14 +41,34 @@ pub fn capacity(arc: &AffineArc, at: &Rat) -> i128
     i128::from(arc.a) * at.q() + i128::from(arc.b) * at.p()
 }
 
-/// Whether an arc keeps the slope rule of a rising network with this source and this sink.
-pub fn keeps_rule(s: u32, t: u32, arc: &AffineArc) -> bool
-    ensures { result ≡ keeps_slope Rising s t arc.now }
+// The slope is one that an arc out of the source may have.
+fn may_leave(sense: Sense, arc: &AffineArc) -> bool
+    ensures { result ≡ fits_source sense arc.now.b }
+{
+    match sense {
+        Sense::Rising => arc.b >= 0,
+        Sense::Falling => arc.b <= 0,
+    }
+}
+
+// The slope is one that an arc into the sink may have.
+fn may_enter(sense: Sense, arc: &AffineArc) -> bool
+    ensures { result ≡ fits_sink sense arc.now.b }
+{
+    match sense {
+        Sense::Rising => arc.b <= 0,
+        Sense::Falling => arc.b >= 0,
+    }
+}
+
+/// Whether an arc keeps the slope rule of a network of this sense with this source and this sink.
+pub fn keeps_rule(sense: Sense, s: u32, t: u32, arc: &AffineArc) -> bool
+    ensures { result ≡ keeps_slope sense s t arc.now }
 {
     if arc.tail == s && arc.head != s && arc.head != t {
-        arc.b >= 0
+        may_leave(sense, arc)
     } else if arc.head == t && arc.tail != t && arc.tail != s {
-        arc.b <= 0
+        may_enter(sense, arc)
     } else {
         arc.b == 0
     }
@@ -57,6 +76,7 @@ pub fn keeps_rule(s: u32, t: u32, arc: &AffineArc) -> bool
 
 // The first reason against the arc of the number `i`.
 fn against_arc(
+    sense: Sense,
     n: u32,
     s: u32,
     t: u32,
@@ -66,12 +86,12 @@ fn against_arc(
     arc: &AffineArc,
 ) -> Option<NetBad>
     requires { is_large arc.now ≡ false }
-    ensures { (all : List AffineArc) → result ≡ arc_refusal (rising n s t lo.now hi.now all) i arc.now }
+    ensures { (all : List AffineArc) → result ≡ arc_refusal (with_sense sense n s t lo.now hi.now all) i arc.now }
 {
     if arc.tail >= n || arc.head >= n {
         return Some(NetBad::BadEnd(i));
     }
-    if !keeps_rule(s, t, arc) {
+    if !keeps_rule(sense, s, t, arc) {
         return Some(NetBad::NotMonotone(i));
     }
     if capacity(arc, lo) < 0 || capacity(arc, hi) < 0 {
@@ -81,20 +101,8 @@ fn against_arc(
 }
 
 // The first reason against an arc.
-fn against_arcs(n: u32, s: u32, t: u32, lo: &Rat, hi: &Rat, arcs: &[AffineArc]) -> Option<NetBad>
-    requires { list_any is_large arcs.now ≡ false }
-    ensures { (all : List AffineArc) → result ≡ arcs_refusal (rising n s t lo.now hi.now all) 0 arcs.now }
-{
-    'arcs: for i in 0..arcs.len() {
-        if let Some(bad) = against_arc(n, s, t, lo, hi, i, &arcs[i]) {
-            return Some(bad);
-        }
-    }
-    None
-}
-
-/// The first reason against a network, in the order in which `Net::build` answers it.
-pub fn first_refusal(
+fn against_arcs(
+    sense: Sense,
     n: u32,
     s: u32,
     t: u32,
@@ -102,7 +110,28 @@ pub fn first_refusal(
     hi: &Rat,
     arcs: &[AffineArc],
 ) -> Option<NetBad>
-    ensures { result ≡ refusal_of (rising n s t lo.now hi.now arcs.now) }
+    requires { list_any is_large arcs.now ≡ false }
+    ensures { (all : List AffineArc) → result ≡ arcs_refusal (with_sense sense n s t lo.now hi.now all) 0 arcs.now }
+{
+    'arcs: for i in 0..arcs.len() {
+        if let Some(bad) = against_arc(sense, n, s, t, lo, hi, i, &arcs[i]) {
+            return Some(bad);
+        }
+    }
+    None
+}
+
+/// The first reason against a network, in the order in which `Net::build` and `Net::build_falling` answer it.
+pub fn first_refusal(
+    sense: Sense,
+    n: u32,
+    s: u32,
+    t: u32,
+    lo: &Rat,
+    hi: &Rat,
+    arcs: &[AffineArc],
+) -> Option<NetBad>
+    ensures { result ≡ refusal_of (with_sense sense n s t lo.now hi.now arcs.now) }
 {
     if n > MOST_NODES || arcs.len() > MOST_ARCS || any_large(arcs) || lies_far(lo) || lies_far(hi) {
         return Some(NetBad::TooBig);
@@ -113,5 +142,5 @@ pub fn first_refusal(
     if !(lo < hi) {
         return Some(NetBad::EmptyInterval);
     }
-    against_arcs(n, s, t, lo, hi, arcs)
+    against_arcs(sense, n, s, t, lo, hi, arcs)
 }

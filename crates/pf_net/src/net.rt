@@ -1,16 +1,17 @@
 // A network, and how it is built.
 ghost use Rattle.std.specs.Prelude.{◌≡◌, ◌≢◌, ◌<◌, ◌≤◌, length, get_or, map, pos, IfOk, IsTrue, ◌↔◌, Some, None, Err};
 ghost use Rattle.pf_model.specs.declared.AffineArc.{AffineArc};
-ghost use Rattle.pf_model.specs.declared.Sense.TheVariants.{Rising};
 ghost use Rattle.pf_model.specs.Network.{Network, IsInInterval, IsNetworkCut, capacity_at, cut_a, cut_b};
+ghost use Rattle.pf_model.specs.Mirror.{mirror};
 ghost use Rattle.pf_frame.specs.Numbers.{IsBounded};
-ghost use Rattle.pf_net.specs.Limits.{IsBuilt, digraph_of, rising};
+ghost use Rattle.pf_net.specs.Limits.{IsBuilt, digraph_of, rising, falling, with_sense};
 ghost use Rattle.pf_net.specs.Refusal.{refusal_of};
 
 use crate::checks::first_refusal;
+use crate::mirrored::{mirror_arcs, negated, turned};
 use crate::sums::{capacities, line_of};
 use pf_frame::{Frame, NoMemory};
-use pf_model::AffineArc;
+use pf_model::{AffineArc, Sense};
 use pf_rat::{Line, Rat};
 use std::alloc::Global;
 use std::marker::Model;
@@ -45,29 +46,31 @@ impl From<NoMemory> for NetBad {
     }
 }
 
-/// A rising parametric network. The capacity of an arc at the parameter `l` is `a + b l`.
+/// A parametric network, rising or falling. The capacity of an arc at the parameter `l` is `a + b l`. In a rising one the capacities of
+/// arcs out of the source do not fall with the parameter and those of arcs into the sink do not rise; in a falling one it is the
+/// other way round; all others are constant.
 #[derive(Drop)]
 pub struct Net {
     frame: Frame,
     arcs: Vec<AffineArc>,
     s: u32,
     t: u32,
+    sense: Sense,
     lo: Rat,
     hi: Rat,
 }
 
 impl Model for Net {
     ghost use Rattle.std.specs.Prelude.{◌≡◌};
-    ghost use Rattle.pf_model.specs.declared.Sense.TheVariants.{Rising};
     ghost use Rattle.pf_model.specs.Network.{Network};
     ghost use Rattle.pf_net.specs.Limits.{IsBuilt, digraph_of};
 
     ghost Value = { Network };
 
-    ghost view = { λ n. record { nodes = n.frame.nodes; source = n.s; sink = n.t; sense = Rising; low = n.lo; high = n.hi; arcs = n.arcs.items } };
+    ghost view = { λ n. record { nodes = n.frame.nodes; source = n.s; sink = n.t; sense = n.sense; low = n.lo; high = n.hi; arcs = n.arcs.items } };
 
-    ghost invariant = { λ n. IsBuilt (record { nodes = n.frame.nodes; source = n.s; sink = n.t; sense = Rising; low = n.lo; high = n.hi; arcs = n.arcs.items })
-        × (n.frame ≡ digraph_of (record { nodes = n.frame.nodes; source = n.s; sink = n.t; sense = Rising; low = n.lo; high = n.hi; arcs = n.arcs.items })) };
+    ghost invariant = { λ n. IsBuilt (record { nodes = n.frame.nodes; source = n.s; sink = n.t; sense = n.sense; low = n.lo; high = n.hi; arcs = n.arcs.items })
+        × (n.frame ≡ digraph_of (record { nodes = n.frame.nodes; source = n.s; sink = n.t; sense = n.sense; low = n.lo; high = n.hi; arcs = n.arcs.items })) };
 }
 
 // The ends of each arc.
@@ -84,6 +87,7 @@ fn ends_of_arcs(alloc: Global, arcs: &[AffineArc]) -> Result<Vec<(u32, u32)>, No
 // The network of numbers against which there is no reason.
 fn make(
     alloc: Global,
+    sense: Sense,
     n: u32,
     s: u32,
     t: u32,
@@ -93,13 +97,13 @@ fn make(
 ) -> Result<Net, NoMemory>
     requires source { s < n }
     requires sink { t < n }
-    requires none { refusal_of (rising n s t lo hi arcs.now) ≡ None }
-    ensures { IfOk result (λ net. net ≡ rising n s t lo hi arcs.now) }
+    requires none { refusal_of (with_sense sense n s t lo hi arcs.now) ≡ None }
+    ensures { IfOk result (λ net. net ≡ with_sense sense n s t lo hi arcs.now) }
 {
     let (low, high) = (lo.q(), hi.q());
     prove!(low >= 1 && high >= 1);
     let arcs = Vec::from_slice(alloc, arcs)?;
-    Net::from_arcs(alloc, n, s, t, lo, hi, arcs)
+    Net::with_sense(alloc, sense, n, s, t, lo, hi, arcs)
 }
 
 impl Net {
@@ -123,10 +127,37 @@ impl Net {
         ensures refused { (bad : NetBad) → result ≡ Err bad → bad ≢ NetBad.NoMemory
             → refusal_of (rising n s t lo hi arcs.now) ≡ Some bad }
     {
-        if let Some(bad) = first_refusal(n, s, t, &lo, &hi, arcs) {
+        let sense = Sense::Rising;
+        if let Some(bad) = first_refusal(sense, n, s, t, &lo, &hi, arcs) {
             return Err(bad);
         }
-        Ok(make(alloc, n, s, t, lo, hi, arcs)?)
+        Ok(make(alloc, sense, n, s, t, lo, hi, arcs)?)
+    }
+
+    /// A falling network of `n` nodes with the source `s`, the sink `t`, the interval from `lo` to `hi` and these arcs, or
+    /// the first reason against it, in the order of `build`; the slope rule is that of falling networks.
+    pub fn build_falling(
+        alloc: Global,
+        n: u32,
+        s: u32,
+        t: u32,
+        lo: Rat,
+        hi: Rat,
+        arcs: &[AffineArc],
+    ) -> Result<Net, NetBad>
+        requires two { 2 ≤ n }
+        requires source { s < n }
+        requires sink { t < n }
+        ensures given { IfOk result (λ net. net ≡ falling n s t lo hi arcs.now) }
+        ensures accepted { IfOk result (λ _. refusal_of (falling n s t lo hi arcs.now) ≡ None) }
+        ensures refused { (bad : NetBad) → result ≡ Err bad → bad ≢ NetBad.NoMemory
+            → refusal_of (falling n s t lo hi arcs.now) ≡ Some bad }
+    {
+        let sense = Sense::Falling;
+        if let Some(bad) = first_refusal(sense, n, s, t, &lo, &hi, arcs) {
+            return Err(bad);
+        }
+        Ok(make(alloc, sense, n, s, t, lo, hi, arcs)?)
     }
 
     /// The rising network of numbers that are known to be one, within the limits. The arcs are handed over, and neither
@@ -143,6 +174,24 @@ impl Net {
         requires { IsBuilt (rising n s t lo hi arcs.items) }
         ensures { IfOk result (λ net. net ≡ rising n s t lo hi arcs.items) }
     {
+        Net::with_sense(alloc, Sense::Rising, n, s, t, lo, hi, arcs)
+    }
+
+    /// The network of this sense and of numbers that are known to be one, within the limits. The arcs are handed over, and
+    /// neither judged nor copied.
+    pub fn with_sense(
+        alloc: Global,
+        sense: Sense,
+        n: u32,
+        s: u32,
+        t: u32,
+        lo: Rat,
+        hi: Rat,
+        arcs: Vec<AffineArc>,
+    ) -> Result<Net, NoMemory>
+        requires { IsBuilt (with_sense sense n s t lo hi arcs.items) }
+        ensures { IfOk result (λ net. net ≡ with_sense sense n s t lo hi arcs.items) }
+    {
         let ends = ends_of_arcs(alloc, arcs.as_slice())?;
         let frame = Frame::from_ends(alloc, n, ends)?;
         Ok(Net {
@@ -150,9 +199,33 @@ impl Net {
             arcs,
             s,
             t,
+            sense,
             lo,
             hi,
         })
+    }
+
+    /// The network of the other sense, from minus the high end of the interval to minus the low one, with each slope negated: at the
+    /// parameter `-l` it has the capacities that this one has at `l`. The line `(A, B)` of a cut becomes `(A, -B)`.
+    pub fn mirror(&self, alloc: Global) -> Result<Net, NoMemory>
+        ensures { IfOk result (λ net. net ≡ mirror self.now) }
+    {
+        let frame = self.frame();
+        let arcs = mirror_arcs(alloc, self.arcs.as_slice())?;
+        let sense = turned(self.sense());
+        let lo = negated(self.hi());
+        let hi = negated(self.lo());
+        let nodes = frame.nodes();
+        Net::with_sense(
+            alloc,
+            sense,
+            nodes,
+            self.source(),
+            self.sink(),
+            lo,
+            hi,
+            arcs,
+        )
     }
 
     /// The nodes and arcs, without capacities. What holds of every network is told here.
@@ -173,6 +246,13 @@ impl Net {
         ensures { result ≡ self.now.sink }
     {
         self.t
+    }
+
+    /// Which way the capacities at the source move as the parameter rises.
+    pub fn sense(&self) -> Sense
+        ensures { result ≡ self.now.sense }
+    {
+        self.sense
     }
 
     /// The low end of the interval.

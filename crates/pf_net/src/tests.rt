@@ -1,5 +1,5 @@
 // Each public function once.
-use crate::{AffineArc, Net};
+use crate::{AffineArc, Net, NetBad, Sense};
 use pf_rat::Rat;
 use std::test::Fail;
 
@@ -43,5 +43,34 @@ fn capacities_at_the_low_end(rt: HostRuntime) -> Result<(), Fail> {
     net.caps_at(&at, &mut caps);
     assert_eq!(rt; caps, [12]);
     assert_eq!(rt; net.arc(0).a, 6);
+    Ok(())
+}
+
+fn arc(tail: u32, head: u32, a: i64, b: i64) -> AffineArc {
+    AffineArc { tail, head, a, b }
+}
+
+#[test]
+fn a_falling_network_and_its_mirror(rt: HostRuntime) -> Result<(), Fail> {
+    let arcs = [arc(0, 1, 10, -1), arc(1, 2, 4, 0)];
+    let net = Net::build_falling(rt.alloc(), 3, 0, 2, Rat::new(0, 1), Rat::new(10, 1), &arcs)?;
+    assert!(rt; net.sense() == Sense::Falling);
+    let other = net.mirror(rt.alloc())?;
+    assert!(rt; other.sense() == Sense::Rising);
+    assert_eq!(rt; (other.lo().p(), other.hi().p()), (-10, 0));
+    let line = other.cut_line(&[true, false, false]);
+    assert_eq!(rt; (line.a(), line.b()), (10, 1));
+    Ok(())
+}
+
+#[test]
+fn a_falling_arc_in_a_rising_network(rt: HostRuntime) -> Result<(), Fail> {
+    let arcs = [arc(0, 1, 10, -1), arc(1, 2, 4, 0)];
+    let (lo, hi) = (Rat::new(0, 1), Rat::new(10, 1));
+    let refused = Net::build(rt.alloc(), 3, 0, 2, lo, hi, &arcs);
+    assert!(rt; matches!(refused, Err(NetBad::NotMonotone(0))));
+    let arcs = [arc(0, 1, 10, 1), arc(1, 2, 4, 0)];
+    let refused = Net::build_falling(rt.alloc(), 3, 0, 2, lo, hi, &arcs);
+    assert!(rt; matches!(refused, Err(NetBad::NotMonotone(0))));
     Ok(())
 }

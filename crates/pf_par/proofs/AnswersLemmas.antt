@@ -5,9 +5,8 @@ use Rattle.std.specs.Fmt.{decimal, signed_decimal}
 use Rattle.std.proofs.Math.Seq.{drop-cons}
 use Rattle.pf_model.specs.Fraction.{Fraction}
 use Rattle.pf_model.specs.Network.{Network}
-use Rattle.pf_model.specs.Answer.{Row}
 use Rattle.pf_text.specs.Spelling.{line}
-use Rattle.pf_par.specs.Answers.{point_fields, cut_fields, segments_text, flows_text, rows_text}
+use Rattle.pf_par.specs.Answers.{point_fields, cut_fields, segments_text, flows_text}
 
 next : {X : Type 0} (xs : List X) (i : ℕ) (other : X) → i < length xs → drop i xs ≡ get_or xs i other ∷ drop (i + 1) xs
 next xs i other low = rw add-one (drop-cons xs i other low)
@@ -16,12 +15,6 @@ next xs i other low = rw add-one (drop-cons xs i other low)
 pub flows_text_at : (j : ℕ) (flows : List (List ℤ)) → j < length flows
     → flows_text j (drop j flows) ≡ line (codes "f" ∷ decimal j ∷ map signed_decimal (get_or flows j [])) ++ flows_text (j + 1) (drop (j + 1) flows)
 flows_text_at j flows low = ap (flows_text j) (next flows j [] low)
-
--- row j and those behind it
-pub rows_text_at : (j : ℕ) (rows : List Row) (other : Row) → j < length rows
-    → rows_text j (drop j rows) ≡ line (codes "x" ∷ decimal j ∷ signed_decimal (get_or rows j other).at.p ∷ signed_decimal (get_or rows j other).at.q
-    ∷ signed_decimal (get_or rows j other).value ∷ decimal (get_or rows j other).size ∷ []) ++ rows_text (j + 1) (drop (j + 1) rows)
-rows_text_at j rows other low = ap (rows_text j) (next rows j other low)
 
 -- segment i, numbered from 1, and those behind it
 pub segments_text_at : (net : Network) (i : ℕ) (sides : List (List Bool)) (points : List Fraction) (flows : List (List ℤ)) (other : Fraction)

@@ -4,11 +4,11 @@ use Rattle.std.specs.Prelude.{All}
 use Rattle.std.proofs.lemmas.Int.{ints}
 use Rattle.std.proofs.lemmas.List.Elements.{All-nil, All-cons, All-head, All-tail}
 use Rattle.pf_model.specs.declared.AffineArc.{AffineArc}
-use Rattle.pf_model.specs.declared.Sense.TheVariants.{Rising}
+use Rattle.pf_model.specs.declared.Sense.{Sense}
 use Rattle.pf_model.specs.Fraction.{Fraction}
 use Rattle.pf_model.specs.Network.{Network, IsMonotone}
-use Rattle.pf_net.specs.Limits.{IsSmallArc, IsNear, IsWithinLimits, IsBuilt, rising}
-use Rattle.pf_par.specs.Text.{ParameterInterval}
+use Rattle.pf_net.specs.Limits.{IsSmallArc, IsNear, IsWithinLimits, IsBuilt, with_sense}
+use Rattle.pf_par.specs.Text.{ParameterInterval, sense_or_rising}
 use Rattle.pf_par.specs.Laws.{IsTextFraction, IsTextArc, IsTextNetwork}
 use Rattle.pf_par.specs.Rules.{IsGoodEnd}
 
@@ -39,10 +39,11 @@ within net is =
     record { nodes = omega (arith, nodes); arcs = omega (arith, arcs); each = all_small net.arcs is.arcs; low = near net.low is.low; high = near net.high is.high }
 
 -- the network of what was given is one that may be built
-pub good_network : (nodes : ℕ) (given : Option ParameterInterval) (source sink : Option ℕ) (arcs : List AffineArc) (interval : ParameterInterval) (s t : ℕ)
-    → given ≡ Some interval → source ≡ Some s → sink ≡ Some t → IsGoodEnd nodes given source sink arcs
-    → IsBuilt (rising nodes s t interval.low interval.high arcs)
-good_network nodes given source sink arcs interval s t i so si good =
-    let both : IsMonotone (rising nodes s t interval.low interval.high arcs) × IsTextNetwork (rising nodes s t interval.low interval.high arcs) =
-    good (rising nodes s t interval.low interval.high arcs) (rw (i, so, si) refl) in
-    record { rising = refl; monotone = both.0; limits = within (rising nodes s t interval.low interval.high arcs) both.1 }
+pub good_network : (nodes : ℕ) (said : Option Sense) (given : Option ParameterInterval) (source sink : Option ℕ) (arcs : List AffineArc) (sense : Sense) (interval : ParameterInterval)
+    (low high : Fraction) (s t : ℕ) → sense ≡ sense_or_rising said → low ≡ interval.low → high ≡ interval.high
+    → given ≡ Some interval → source ≡ Some s → sink ≡ Some t → IsGoodEnd nodes said given source sink arcs
+    → IsBuilt (with_sense sense nodes s t low high arcs)
+good_network nodes said given source sink arcs sense interval low high s t is l h i so si good =
+    let both : IsMonotone (with_sense (sense_or_rising said) nodes s t interval.low interval.high arcs) × IsTextNetwork (with_sense (sense_or_rising said) nodes s t interval.low interval.high arcs) =
+    good (with_sense (sense_or_rising said) nodes s t interval.low interval.high arcs) (rw (i, so, si) refl) in
+    rw (is, l, h) (record { monotone = both.0; limits = within (with_sense (sense_or_rising said) nodes s t interval.low interval.high arcs) both.1 })

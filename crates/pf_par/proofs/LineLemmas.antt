@@ -2,10 +2,11 @@
 use Rattle.std.proofs.Common.{◌≡◌, ℕ, ◌<◌, ◌≤◌, ◌^◌, not, List, [], ◌∷◌, get_or, Some, Ok, refl, ap, ◌∙◌, arith, to_z, of_z, w64}
 use Rattle.std.specs.Prelude.{ℤ, pos, nat_abs, is_some}
 use Rattle.std.proofs.lemmas.Int.{ints}
+use Rattle.pf_model.specs.declared.Sense.{Sense}
 use Rattle.pf_model.specs.Fraction.{Fraction, is_below}
 use Rattle.pf_text.specs.declared.RuleKind.TheVariants.{Repeated, Interval}
 use Rattle.pf_text.specs.Kinds.{Fits, broken_if}
-use Rattle.pf_par.specs.Text.{Given, fraction, node_count, node_index, interval_form, interval_rules, arc_form, arc_rules, arc_rules_by}
+use Rattle.pf_par.specs.Text.{Given, fraction, node_count, node_index, interval_form, interval_rules, sense_or_rising, arc_form, arc_rules, arc_rules_by}
 use Rattle.pf_par.specs.Rules.{IsEnd}
 
 -- a number of at most this size comes back from its bits
@@ -57,15 +58,15 @@ interval_numbers (lp ∷ lq ∷ hp ∷ hq ∷ []) f =
 interval_numbers (lp ∷ lq ∷ hp ∷ hq ∷ n ∷ numbers) f = absurd f.2.2.2.2
 
 -- what the rules make of an arc, by its numbers as code has them
-pub arc_numbers : (n : ℕ) (header_numbers numbers : List ℤ) (given : Given) (tail head : ℕ) → node_count header_numbers ≡ n → n < 2 ^ 32 → Fits (arc_form header_numbers).patterns numbers
+pub arc_numbers : (n : ℕ) (header_numbers numbers : List ℤ) (given : Given) (sense : Sense) (tail head : ℕ) → sense ≡ sense_or_rising given.sense → node_count header_numbers ≡ n → n < 2 ^ 32 → Fits (arc_form header_numbers).patterns numbers
     → tail ≡ node_index (bits (at numbers 0)) → head ≡ node_index (bits (at numbers 1))
     → arc_rules numbers given
-    ≡ arc_rules_by given.interval given.source given.sink (record { tail = tail; head = head; a = bits (at numbers 2); b = bits (at numbers 3) }) given
-arc_numbers n header_numbers [] given tail head is small f t h = absurd f
-arc_numbers n header_numbers (u ∷ []) given tail head is small f t h = absurd f.2
-arc_numbers n header_numbers (u ∷ v ∷ []) given tail head is small f t h = absurd f.2.2
-arc_numbers n header_numbers (u ∷ v ∷ a ∷ []) given tail head is small f t h = absurd f.2.2.2
-arc_numbers n header_numbers (u ∷ v ∷ a ∷ b ∷ []) given tail head is small f t h =
+    ≡ arc_rules_by sense given.interval given.source given.sink (record { tail = tail; head = head; a = bits (at numbers 2); b = bits (at numbers 3) }) given
+arc_numbers n header_numbers [] given sense tail head said is small f t h = absurd f
+arc_numbers n header_numbers (u ∷ []) given sense tail head said is small f t h = absurd f.2
+arc_numbers n header_numbers (u ∷ v ∷ []) given sense tail head said is small f t h = absurd f.2.2
+arc_numbers n header_numbers (u ∷ v ∷ a ∷ []) given sense tail head said is small f t h = absurd f.2.2.2
+arc_numbers n header_numbers (u ∷ v ∷ a ∷ b ∷ []) given sense tail head said is small f t h =
     let u_low = f.0 in
     let u_high = f.1 in
     let v_low = f.2.0 in
@@ -75,10 +76,11 @@ arc_numbers n header_numbers (u ∷ v ∷ a ∷ b ∷ []) given tail head is sma
     let b_low = f.2.2.2.0 in
     let b_high = f.2.2.2.1 in
     rw (
+      said,
       t ∙ ap node_index (back u (omega (arith, ints, u_low, u_high, is, small))),
       h ∙ ap node_index (back v (omega (arith, ints, v_low, v_high, is, small))),
       back a (omega (arith, ints, a_low, a_high)),
       back b (omega (arith, ints, b_low, b_high)),
     )
     refl
-arc_numbers n header_numbers (u ∷ v ∷ a ∷ b ∷ m ∷ numbers) given tail head is small f t h = absurd f.2.2.2.2
+arc_numbers n header_numbers (u ∷ v ∷ a ∷ b ∷ m ∷ numbers) given sense tail head said is small f t h = absurd f.2.2.2.2

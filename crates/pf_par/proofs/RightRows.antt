@@ -1,5 +1,5 @@
--- Right answers on a worked network: the texts of its least cuts, of its whole least-cut function, of a sweep and of a verdict.
-use Rattle.std.proofs.Common.{◌≡◌, ℕ, zero, suc, ◌<◌, ◌^◌, List, [], ◌∷◌, map, Bool, true, false, refl, arith}
+-- Right answers on a worked network: the texts of its least cuts, of its whole least-cut function and of a verdict.
+use Rattle.std.proofs.Common.{◌≡◌, ℕ, ◌<◌, ◌^◌, List, [], ◌∷◌, Bool, true, false, refl, arith}
 use Rattle.std.specs.Prelude.{ℤ, pos, codes}
 use Rattle.std.specs.Fmt.{digits}
 use Rattle.std.proofs.lemmas.Int.{ints}
@@ -10,16 +10,16 @@ use Rattle.pf_model.specs.Flow.{IsFlow}
 use Rattle.pf_model.specs.Residual.{IsReach}
 use Rattle.pf_model.specs.Network.{IsMonotone, IsNetworkCut, IsInInterval, network_at}
 use Rattle.pf_model.specs.Curve.{CertifiesCurve}
-use Rattle.pf_model.specs.Answer.{Curve, Row, IsWithinSize, IsFractionShape, IsFlowShape, IsCurveShape}
+use Rattle.pf_model.specs.Answer.{Curve, IsWithinSize, IsFractionShape, IsFlowShape, IsCurveShape}
 use Rattle.pf_model.proofs.Affine.{proper_at}
 use Rattle.pf_model.proofs.Certificate.{certified_is_curve}
 use Rattle.pf_model.proofs.CurveTest.{certified_by_tests, reach_from_test}
 use Rattle.pf_model.proofs.Duality.{smallest_from_reach}
 use Rattle.pf_model.proofs.FlowTest.{flow_from_test}
 use Rattle.pf_model.proofs.Lowest.{lowest_is}
-use Rattle.pf_par.specs.Answers.{point_text, curve_text, sweep_text}
+use Rattle.pf_par.specs.Answers.{point_text, curve_text}
 use Rattle.pf_text.specs.Verdict.{verdict_text}
-use Rattle.pf_par.specs.Right.{sweep_parameter, row_at, IsRightCurve, IsRightRow, IsRightSweep, IsRightCheck, IsRightPoint}
+use Rattle.pf_par.specs.Right.{IsRightCurve, IsRightCheck, IsRightPoint}
 use Rattle.pf_par.proofs.ParLaw.{accepted_is_monotone}
 use Rattle.pf_text.proofs.Rows.{text}
 use Rattle.pf_par.proofs.Rows.{two_lines, two, two_is_read}
@@ -51,23 +51,11 @@ first_cut = record { full = refl; with_source = refl; without_sink = refl }
 second_cut : IsNetworkCut two second_side
 second_cut = record { full = refl; with_source = refl; without_sink = refl }
 
-flow_at_0 : IsFlow (network_at two (whole 0)) zeros
-flow_at_0 = flow_from_test _ _ refl
-
 flow_at_4 : IsFlow (network_at two (whole 4)) fours
 flow_at_4 = flow_from_test _ _ refl
 
-flow_at_10 : IsFlow (network_at two (whole 10)) fours
-flow_at_10 = flow_from_test _ _ refl
-
-reach_at_0 : IsReach (network_at two (whole 0)) zeros first_side
-reach_at_0 = reach_from_test _ _ _ (omega arith) refl
-
 reach_at_4 : IsReach (network_at two (whole 4)) fours first_side
 reach_at_4 = reach_from_test _ _ _ (omega arith) refl
-
-reach_at_10 : IsReach (network_at two (whole 10)) fours second_side
-reach_at_10 = reach_from_test _ _ _ (omega arith) refl
 
 smallest_by : (p : ℕ) (flow : List ℤ) (side : List Bool) → p < 11 → IsFlow (network_at two (whole p)) flow → IsReach (network_at two (whole p)) flow side → has side 2 ≡ false
     → IsSmallestLeast (network_at two (whole p)) side
@@ -181,40 +169,3 @@ not_empty c e = cc
 no_is_right : IsRightCheck two [] (text (codes "o check" ∷ codes "no" ∷ codes "end" ∷ []))
 unfolding text verdict_text
 no_is_right = record { verdict = false; exact = (λ same. absurd cc, λ certified. absurd (not_empty certified.curve certified.text_is)); text_is = refl }
-
--- ---- a sweep of one step
-
-smallest_at_0 : IsSmallestLeast (network_at two (whole 0)) first_side
-smallest_at_0 = smallest_by 0 zeros first_side (omega arith) flow_at_0 reach_at_0 refl
-
-smallest_at_10 : IsSmallestLeast (network_at two (whole 10)) second_side
-smallest_at_10 = smallest_by 10 fours second_side (omega arith) flow_at_10 reach_at_10 refl
-
-abbrev rows : List Row
-rows = record { at = whole 0; value = pos 0; size = 1 } ∷ record { at = whole 10; value = pos 4; size = 2 } ∷ []
-
-rows_are_right : (j : ℕ) → j < 2 → IsRightRow two (sweep_parameter two 1 j) (row_at two rows j)
-unfolding lowest
-rows_are_right zero low = record {
-  shape = record { at = whole_shape 0 (omega arith) lowest_0; value = record { low = omega (arith, ints); high = omega (arith, ints) }; size = omega arith };
-  parameter = refl;
-  value = record { side = first_side; least = smallest_at_0.least; value_is = refl };
-  size = record { side = first_side; least = smallest_at_0; count_is = refl };
-}
-rows_are_right (suc zero) low = record {
-  shape = record { at = whole_shape 10 (omega arith) lowest_10; value = record { low = omega (arith, ints); high = omega (arith, ints) }; size = omega arith };
-  parameter = refl;
-  value = record { side = second_side; least = smallest_at_10.least; value_is = refl };
-  size = record { side = second_side; least = smallest_at_10; count_is = refl };
-}
-rows_are_right (suc (suc j)) low = absurd (omega (arith, low))
-
-sweep_is_right : IsRightSweep 1 two (text (codes "o sweep" ∷ codes "k 1" ∷ codes "x 0 0 1 0 1" ∷ codes "x 1 10 1 4 2" ∷ codes "end" ∷ []))
-unfolding text digits sweep_text
-sweep_is_right = record { rows = rows; count = refl; each = rows_are_right; text_is = refl }
-
--- the five parameters of four steps
-parameters_of_sweep : map (sweep_parameter two 4) (0 ∷ 1 ∷ 2 ∷ 3 ∷ 4 ∷ [])
-    ≡ whole 0 ∷ record { p = pos 5; q = pos 2 } ∷ whole 5 ∷ record { p = pos 15; q = pos 2 } ∷ whole 10 ∷ []
-unfolding lowest
-parameters_of_sweep = refl

@@ -1,8 +1,8 @@
 -- Texts read to their networks or refused at their lines, and answer texts: worked rows, by computation alone.
 use Rattle.std.proofs.Common.{◌≡◌, ℕ, List, [], ◌∷◌, ◌++◌, map, true, false, Ok, Err, refl}
-use Rattle.std.specs.Prelude.{pos, codes}
+use Rattle.std.specs.Prelude.{pos, neg_ℤ, codes}
 use Rattle.std.specs.Fmt.{digits}
-use Rattle.pf_model.specs.declared.Sense.TheVariants.{Rising}
+use Rattle.pf_model.specs.declared.Sense.TheVariants.{Rising, Falling}
 use Rattle.pf_model.specs.Fraction.{lowest}
 use Rattle.pf_model.specs.Network.{Network}
 use Rattle.pf_text.specs.declared.TextBad.TheVariants.{Syntax, Range, Count, WrongKind, Rule, NoEnd}
@@ -11,9 +11,8 @@ use Rattle.pf_text.specs.Lines.{raw_lines, fields, lines_from}
 use Rattle.pf_text.specs.Numbers.{natural_of, whole_of}
 use Rattle.pf_text.specs.Kinds.{header, step, end_line, problem_of}
 use Rattle.pf_par.specs.Text.{par}
-use Rattle.pf_par.specs.Answers.{point_text, curve_text, sweep_text}
+use Rattle.pf_par.specs.Answers.{point_text, curve_text}
 use Rattle.pf_text.proofs.Rows.{text}
-use Rattle.pf_par.specs.Right.{is_too_fine}
 
 -- two arcs in a row, the first of which grows with the parameter
 abbrev pub two_lines : List (List ℕ)
@@ -169,17 +168,50 @@ syntax_before_range : problem_of par (text (codes "p par 3 0" ∷ codes "a 1 4 0
 unfolding text raw_lines fields lines_from natural_of whole_of header step end_line problem_of par lowest
 syntax_before_range = refl
 
--- two steps between two fine parameters, and one
-abbrev fine : Network
-fine = record { nodes = 2; source = 0; sink = 1; sense = Rising; low = record { p = pos 1; q = pos 1000000 }; high = record { p = pos 2; q = pos 999999 }; arcs = [] }
+-- an arc that falls with the parameter, in a text that says so
+abbrev pub falls : Network
+falls = record two {
+  sense = Falling;
+  arcs = record { tail = 0; head = 1; a = pos 10; b = neg_ℤ (pos 1) } ∷ record { tail = 1; head = 2; a = pos 4; b = pos 0 } ∷ [];
+}
 
-two_steps_are_too_fine : is_too_fine 2 fine
-    ≡ true
-two_steps_are_too_fine = refl
+falls_is_read : problem_of par (text (codes "p par 3 2" ∷ codes "i 0 1 10 1" ∷ codes "d falling" ∷ codes "n 1 s" ∷ codes "n 3 t" ∷ codes "a 1 2 10 -1" ∷ codes "a 2 3 4 0" ∷ codes "end" ∷ []))
+    ≡ Ok (record { problem = falls; rest = []; line = 8 })
+unfolding text raw_lines fields lines_from natural_of whole_of header step end_line problem_of par lowest
+falls_is_read = refl
 
-one_step_is_not : is_too_fine 1 fine
-    ≡ false
-one_step_is_not = refl
+-- a text that says what holds where it says nothing
+said_is_read : problem_of par (text (codes "p par 3 2" ∷ codes "d rising" ∷ codes "i 0 1 10 1" ∷ codes "n 1 s" ∷ codes "n 3 t" ∷ codes "a 1 2 0 1" ∷ codes "a 2 3 4 0" ∷ codes "end" ∷ []))
+    ≡ Ok (record { problem = two; rest = []; line = 8 })
+unfolding text raw_lines fields lines_from natural_of whole_of header step end_line problem_of par lowest
+said_is_read = refl
+
+-- the same arc where the text does not say that it falls, and one that rises where it does
+not_said : problem_of par (text (codes "p par 3 2" ∷ codes "i 0 1 10 1" ∷ codes "n 1 s" ∷ codes "n 3 t" ∷ codes "a 1 2 10 -1" ∷ codes "a 2 3 4 0" ∷ codes "end" ∷ []))
+    ≡ Err (Rule 5 Monotone)
+unfolding text raw_lines fields lines_from natural_of whole_of header step end_line problem_of par lowest
+not_said = refl
+
+rises_in_falling : problem_of par (text (codes "p par 3 2" ∷ codes "i 0 1 10 1" ∷ codes "d falling" ∷ codes "n 1 s" ∷ codes "n 3 t" ∷ codes "a 1 2 0 1" ∷ codes "a 2 3 4 0" ∷ codes "end" ∷ []))
+    ≡ Err (Rule 6 Monotone)
+unfolding text raw_lines fields lines_from natural_of whole_of header step end_line problem_of par lowest
+rises_in_falling = refl
+
+-- a sense behind an arc, a second one, and another word
+sense_behind_arcs : problem_of par (text (codes "p par 3 2" ∷ codes "i 0 1 10 1" ∷ codes "n 1 s" ∷ codes "n 3 t" ∷ codes "a 1 2 10 0" ∷ codes "a 2 3 4 0" ∷ codes "d falling" ∷ codes "end" ∷ []))
+    ≡ Err (Rule 7 Repeated)
+unfolding text raw_lines fields lines_from natural_of whole_of header step end_line problem_of par lowest
+sense_behind_arcs = refl
+
+second_sense : problem_of par (text (codes "p par 3 2" ∷ codes "d falling" ∷ codes "d falling" ∷ codes "i 0 1 10 1" ∷ codes "n 1 s" ∷ codes "n 3 t" ∷ codes "a 1 2 10 -1" ∷ codes "a 2 3 4 0" ∷ codes "end" ∷ []))
+    ≡ Err (Rule 3 Repeated)
+unfolding text raw_lines fields lines_from natural_of whole_of header step end_line problem_of par lowest
+second_sense = refl
+
+other_sense_word : problem_of par (text (codes "p par 3 2" ∷ codes "i 0 1 10 1" ∷ codes "d down" ∷ codes "n 1 s" ∷ codes "n 3 t" ∷ codes "a 1 2 10 -1" ∷ codes "a 2 3 4 0" ∷ codes "end" ∷ []))
+    ≡ Err (Syntax 3)
+unfolding text raw_lines fields lines_from natural_of whole_of header step end_line problem_of par lowest
+other_sense_word = refl
 
 -- the answer to `at 08/2`
 point_is_printed : point_text two (record { at = lowest (record { p = pos 8; q = pos 2 }); side = true ∷ false ∷ false ∷ []; flow = pos 4 ∷ pos 4 ∷ [] })
@@ -196,9 +228,3 @@ curve_is_printed : curve_text two (record {
     ≡ text (codes "o curve" ∷ codes "k 2" ∷ codes "b 0 0 1 0" ∷ codes "s 1 0 1 100" ∷ codes "b 1 4 1 4" ∷ codes "s 2 4 0 110" ∷ codes "b 2 10 1 4" ∷ codes "f 0 0 0" ∷ codes "f 1 4 4" ∷ codes "f 2 4 4" ∷ codes "end" ∷ [])
 unfolding text digits lowest curve_text
 curve_is_printed = refl
-
--- five values that divide the interval evenly
-sweep_is_printed : sweep_text (record { at = record { p = pos 0; q = pos 1 }; value = pos 0; size = 1 } ∷ record { at = record { p = pos 5; q = pos 2 }; value = pos 5; size = 1 } ∷ record { at = record { p = pos 5; q = pos 1 }; value = pos 4; size = 2 } ∷ record { at = record { p = pos 15; q = pos 2 }; value = pos 8; size = 2 } ∷ record { at = record { p = pos 10; q = pos 1 }; value = pos 4; size = 2 } ∷ [])
-    ≡ text (codes "o sweep" ∷ codes "k 4" ∷ codes "x 0 0 1 0 1" ∷ codes "x 1 5 2 5 1" ∷ codes "x 2 5 1 4 2" ∷ codes "x 3 15 2 8 2" ∷ codes "x 4 10 1 4 2" ∷ codes "end" ∷ [])
-unfolding text digits lowest sweep_text
-sweep_is_printed = refl

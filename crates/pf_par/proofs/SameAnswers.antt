@@ -1,18 +1,18 @@
 -- Answers of the right shape with equal texts are equal.
-use Rattle.std.proofs.Common.{◌≡◌, ℕ, ◌+◌, ◌-◌, ◌<◌, ◌≤◌, ◌^◌, List, [], ◌∷◌, ◌++◌, length, get_or, drop, map, refl, sym, ap, ◌∙◌, append_assoc, arith}
-use Rattle.std.specs.Prelude.{◌≢◌, ℤ, Bool, nat_abs, All, codes}
+use Rattle.std.proofs.Common.{◌≡◌, ℕ, ◌<◌, ◌≤◌, ◌^◌, List, [], ◌∷◌, ◌++◌, length, get_or, drop, map, refl, sym, ap, ◌∙◌, append_assoc, arith}
+use Rattle.std.specs.Prelude.{ℤ, Bool, nat_abs, codes}
 use Rattle.std.specs.List.{AllByRecursion}
-use Rattle.std.specs.Fmt.{decimal, signed_decimal}
+use Rattle.std.specs.Fmt.{signed_decimal}
 use Rattle.std.proofs.lemmas.Int.{ints}
 use Rattle.std.proofs.lemmas.List.{append-nil}
 use Rattle.std.proofs.lemmas.List.Elements.{recursion_from_All}
 use Rattle.pf_model.specs.Fraction.{Fraction}
 use Rattle.pf_model.specs.Network.{Network, IsNetworkCut}
-use Rattle.pf_model.specs.Answer.{Point, Row, IsWithinSize, IsFractionShape, IsFlowShape, IsPointShape, IsRowShape}
+use Rattle.pf_model.specs.Answer.{Point, IsWithinSize, IsFractionShape, IsFlowShape, IsPointShape}
 use Rattle.pf_text.specs.Spelling.{line}
-use Rattle.pf_par.specs.Answers.{point_fields, cut_fields, point_text, rows_text, sweep_text}
+use Rattle.pf_par.specs.Answers.{point_fields, cut_fields, point_text}
 use Rattle.pf_text.proofs.NumbersLemmas.{one_number}
-use Rattle.pf_text.proofs.TextLines.{ArePlain, lines_text, lines_text-append, same_lines, decimal_plain, signed_plain, numbers_plain, side_plain, same_side, same_decimal}
+use Rattle.pf_text.proofs.TextLines.{ArePlain, lines_text, same_lines, signed_plain, numbers_plain, side_plain, same_side}
 
 -- ---- parts
 
@@ -110,61 +110,11 @@ same_point net a b sa sb e =
     let flow = same_flow net a.flow b.flow sa.flow sb.flow (ap (λ (ls : List (List (List ℕ))). drop 1 (get_or ls 3 [])) lines) in
     point_of_parts a.at b.at a.side b.side a.flow b.flow at side flow
 
--- ---- rows of a sweep
-
-abbrev row_lines : ℕ → List Row → List (List (List ℕ))
-row_lines j [] = []
-row_lines j (row ∷ rows) = (codes "x" ∷ decimal j ∷ signed_decimal row.at.p ∷ signed_decimal row.at.q ∷ signed_decimal row.value ∷ decimal row.size ∷ []) ∷ row_lines (j + 1) rows
-
-row_lines_plain : (j : ℕ) (rows : List Row) → AllByRecursion ArePlain (row_lines j rows)
-row_lines_plain j [] = tt
-row_lines_plain j (row ∷ rows) =
-    ((record { some = omega arith; all = refl }, (decimal_plain j, (signed_plain _, (signed_plain _, (signed_plain _, (decimal_plain _, tt)))))), row_lines_plain (j + 1) rows)
-
-rows_text_is : (j : ℕ) (rows : List Row) → rows_text j rows ≡ lines_text (row_lines j rows)
-rows_text_is j [] = refl
-rows_text_is j (row ∷ rows) =
-    ap (λ (t : List ℕ). line (codes "x" ∷ decimal j ∷ signed_decimal row.at.p ∷ signed_decimal row.at.q ∷ signed_decimal row.value ∷ decimal row.size ∷ []) ++ t) (rows_text_is (j + 1) rows)
+-- ---- lists of lines
 
 -- the first byte of the first field of the first line
 abbrev pub mark : List (List (List ℕ)) → ℕ
 mark lines = get_or (field_at 0 0 lines) 0 0
-
-abbrev row_of : Fraction → ℤ → ℕ → Row
-row_of at value size = record { at = at; value = value; size = size }
-
-row_of_parts : (at at' : Fraction) (value value' : ℤ) (size size' : ℕ) → at ≡ at' → value ≡ value' → size ≡ size'
-    → row_of at value size ≡ row_of at' value' size'
-row_of_parts at at' value value' size size' e f g = cc
-
-small_size : (n : ℕ) → n ≤ 2 ^ 13 → n < 10 ^ 64
-small_size n small = omega (arith, small)
-
-same_rows_by : (j : ℕ) (a b : List Row) (tail tail' : List (List (List ℕ))) → AllByRecursion IsRowShape a → AllByRecursion IsRowShape b → mark tail ≢ 120 → mark tail' ≢ 120
-    → row_lines j a ++ tail ≡ row_lines j b ++ tail' → a ≡ b
-same_rows_by j [] [] tail tail' sa sb other other' e = refl
-same_rows_by j [] (row ∷ b) tail tail' sa sb other other' e = absurd (other (ap mark e))
-same_rows_by j (row ∷ a) [] tail tail' sa sb other other' e = absurd (other' (sym (ap mark e)))
-same_rows_by j (x ∷ a) (y ∷ b) tail tail' sa sb other other' e =
-    let at = same_fraction x.at y.at sa.0.at sb.0.at (ap (field_at 0 2) e) (ap (field_at 0 3) e) in
-    let value = one_number x.value y.value (within_digits (2 ^ 119) x.value (omega arith) sa.0.value) (within_digits (2 ^ 119) y.value (omega arith) sb.0.value) (ap (field_at 0 4) e) in
-    let size = same_decimal x.size y.size (small_size x.size sa.0.size) (small_size y.size sb.0.size) (ap (field_at 0 5) e) in
-    let here : x ≡ y = row_of_parts x.at y.at x.value y.value x.size y.size at value size in
-    let back : a ≡ b = same_rows_by (j + 1) a b tail tail' sa.1 sb.1 other other' (ap (drop 1) e) in
-    ap (λ (row : Row). row ∷ a) here ∙ ap (λ (rows : List Row). y ∷ rows) back
-
-abbrev sweep_lines : List Row → List (List (List ℕ))
-sweep_lines rows = (codes "o" ∷ codes "sweep" ∷ []) ∷ (codes "k" ∷ decimal (length rows - 1) ∷ []) ∷ (row_lines 0 rows ++ (codes "end" ∷ []) ∷ [])
-
-pub four : (a b c d : List ℕ) → a ++ b ++ c ++ d ≡ a ++ (b ++ (c ++ (d ++ [])))
-four a b c d = simp (append_assoc, append-nil)
-
-sweep_text_is : (rows : List Row) → sweep_text rows ≡ lines_text (sweep_lines rows)
-unfolding sweep_text
-sweep_text_is rows =
-    four (line (codes "o" ∷ codes "sweep" ∷ [])) (line (codes "k" ∷ decimal (length rows - 1) ∷ [])) (rows_text 0 rows) (line (codes "end" ∷ []))
-    ∙ ap (λ (t : List ℕ). line (codes "o" ∷ codes "sweep" ∷ []) ++ (line (codes "k" ∷ decimal (length rows - 1) ∷ []) ++ t))
-    (ap (λ (t : List ℕ). t ++ (line (codes "end" ∷ []) ++ [])) (rows_text_is 0 rows) ∙ sym (lines_text-append (row_lines 0 rows) ((codes "end" ∷ []) ∷ [])))
 
 pub all_plain : (a b : List (List (List ℕ))) → AllByRecursion ArePlain a → AllByRecursion ArePlain b → AllByRecursion ArePlain (a ++ b)
 all_plain [] b pa pb = pb
@@ -172,16 +122,3 @@ all_plain (parts ∷ a) b pa pb = (pa.0, all_plain a b pa.1 pb)
 
 pub end_plain : AllByRecursion ArePlain ((codes "end" ∷ []) ∷ [])
 end_plain = ((record { some = omega arith; all = refl }, tt), tt)
-
-sweep_lines_plain : (rows : List Row) → AllByRecursion ArePlain (sweep_lines rows)
-sweep_lines_plain rows = (
-  (record { some = omega arith; all = refl }, (record { some = omega arith; all = refl }, tt)),
-  ((record { some = omega arith; all = refl }, (decimal_plain _, tt)), all_plain (row_lines 0 rows) ((codes "end" ∷ []) ∷ []) (row_lines_plain 0 rows) end_plain),
-)
-
-pub same_rows : (a b : List Row) → All IsRowShape a → All IsRowShape b → sweep_text a ≡ sweep_text b → a ≡ b
-same_rows a b sa sb e =
-    let lines : sweep_lines a ≡ sweep_lines b = same_lines (sweep_lines a) (sweep_lines b) (sweep_lines_plain a) (sweep_lines_plain b) (sym (sweep_text_is a) ∙ e ∙ sweep_text_is b) in
-    let end : List (List (List ℕ)) = (codes "end" ∷ []) ∷ [] in
-    let other : mark ((codes "end" ∷ []) ∷ []) ≢ 120 = (λ same. omega (arith, same)) in
-    same_rows_by 0 a b ((codes "end" ∷ []) ∷ []) ((codes "end" ∷ []) ∷ []) (recursion_from_All IsRowShape a sa) (recursion_from_All IsRowShape b sb) other other (ap (drop 2) lines)

@@ -3,11 +3,11 @@ use Rattle.std.specs.Prelude.{◌≡◌, ◌↔◌, ℕ, ◌≤◌, List, length
 use Rattle.pf_model.specs.declared.AffineArc.{AffineArc}
 use Rattle.pf_model.specs.Fraction.{Fraction, IsParameter, IsLowest}
 use Rattle.pf_model.specs.Network.{Network, IsMonotone}
-use Rattle.pf_model.specs.Answer.{Point, Curve, Row, IsPointShape, IsCurveShape, IsRowShape}
+use Rattle.pf_model.specs.Answer.{Point, Curve, IsPointShape, IsCurveShape}
 use Rattle.pf_text.specs.Kinds.{Accepted, problem_of}
 use Rattle.pf_text.specs.Numbers.{billion}
 use Rattle.pf_par.specs.Text.{par}
-use Rattle.pf_par.specs.Answers.{point_text, curve_text, sweep_text}
+use Rattle.pf_par.specs.Answers.{point_text, curve_text}
 use Rattle.pf_par.specs.Right.{IsRightCurve, IsCertifiedCurve, IsRightCheck}
 
 -- an end of an interval that a text gives, in lowest terms
@@ -48,9 +48,6 @@ PointFromText = (net : Network) (a b : Point) → IsPointShape net a → IsPoint
 
 abbrev pub CurveFromText : Type 0
 CurveFromText = (net : Network) (a b : Curve) → IsCurveShape net a → IsCurveShape net b → curve_text net a ≡ curve_text net b → a ≡ b
-
-abbrev pub RowsFromText : Type 0
-RowsFromText = (a b : List Row) → All IsRowShape a → All IsRowShape b → sweep_text a ≡ sweep_text b → a ≡ b
 
 -- one of `yes` and `no` is the right verdict, and not the other
 abbrev pub VerdictIsUnique : Type 0

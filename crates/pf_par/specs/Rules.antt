@@ -1,11 +1,11 @@
 -- The rules of the kind `par`, apart from what a line gives.
 use Rattle.std.specs.Prelude.{◌≡◌, ℕ, ℤ, pos, neg_ℤ, ◌≤ℤ◌, List, Option, Some, None, Result, Ok, Err}
 use Rattle.pf_model.specs.declared.AffineArc.{AffineArc}
-use Rattle.pf_model.specs.declared.Sense.TheVariants.{Rising}
+use Rattle.pf_model.specs.declared.Sense.{Sense}
 use Rattle.pf_model.specs.Network.{Network, IsMonotone}
 use Rattle.pf_text.specs.declared.RuleKind.{RuleKind}
 use Rattle.pf_par.specs.Laws.{IsTextNetwork}
-use Rattle.pf_par.specs.Text.{ParameterInterval, network_by}
+use Rattle.pf_par.specs.Text.{ParameterInterval, sense_or_rising, network_by}
 use Rattle.pf_text.specs.Numbers.{billion}
 
 -- the rule that is broken decides, and else what follows
@@ -21,5 +21,5 @@ pub record IsEnd (p q : ℤ) : Type 0 where
   pub q_high : q ≤ℤ pos billion
 
 -- the network of what was given, where there is one, is monotone and within the limits of texts
-abbrev pub IsGoodEnd : ℕ → Option ParameterInterval → Option ℕ → Option ℕ → List AffineArc → Type 0
-IsGoodEnd nodes interval source sink arcs = (net : Network) → network_by nodes Rising interval source sink arcs ≡ Ok net → IsMonotone net × IsTextNetwork net
+abbrev pub IsGoodEnd : ℕ → Option Sense → Option ParameterInterval → Option ℕ → Option ℕ → List AffineArc → Type 0
+IsGoodEnd nodes sense interval source sink arcs = (net : Network) → network_by nodes (sense_or_rising sense) interval source sink arcs ≡ Ok net → IsMonotone net × IsTextNetwork net

@@ -1,6 +1,5 @@
 // What the lines of a text have given so far, and the rules of the lines.
 ghost use Rattle.std.specs.Prelude.{◌≡◌, ℕ, ◌^◌, ◌∷◌, ◌++◌, [], ◌||◌, pos, int_lt, ◌≤ℤ◌, Result, Ok, not, is_some};
-ghost use Rattle.pf_model.specs.declared.Sense.TheVariants.{Rising};
 ghost use Rattle.pf_model.specs.Fraction.{is_below};
 ghost use Rattle.pf_model.specs.Network.{capacity_at};
 ghost use Rattle.pf_text.specs.declared.RuleKind.{RuleKind};
@@ -8,13 +7,13 @@ ghost use Rattle.pf_text.specs.declared.RuleKind.TheVariants.{Repeated};
 ghost use Rattle.pf_text.specs.Kinds.{Fits, broken_if};
 ghost use Rattle.pf_lines.specs.Gathering.{ObeysRules};
 ghost use Rattle.pf_par.specs.Laws.{IsTextArc};
-ghost use Rattle.pf_par.specs.Text.{Given, nothing_given, fraction, node_index, arc_rules_by, interval_rules, interval_form, end_rules, end_form, arc_rules, arc_form, network_by};
+ghost use Rattle.pf_par.specs.Text.{Given, nothing_given, sense_or_rising, sense_rules, fraction, node_index, arc_rules_by, interval_rules, interval_form, end_rules, end_form, arc_rules, arc_form, network_by};
 ghost use Rattle.pf_par.specs.Rules.{IsEnd, IsGoodEnd, broken_by};
 ghost use Rattle.pf_par.specs.ParState.{given_of, header_of};
 
 use pf_lines::{LineBad, RuleKind};
 use pf_model::AffineArc;
-use pf_net::{Net, capacity, keeps_rule};
+use pf_net::{Net, Sense, capacity, keeps_rule};
 use pf_rat::Rat;
 use std::alloc::Global;
 use std::cmp::Ordering;
@@ -70,6 +69,7 @@ pub struct ParState {
     interval: Option<Interval>,
     source: Option<u32>,
     sink: Option<u32>,
+    sense: Option<Sense>,
     arcs: Vec<AffineArc>,
 }
 
@@ -85,6 +85,7 @@ impl ParState {
             interval: None,
             source: None,
             sink: None,
+            sense: None,
             arcs: Vec::new(alloc),
         }
     }
@@ -136,6 +137,21 @@ impl ParState {
         Ok(())
     }
 
+    /// `d rising` or `d falling`. It stands before all arcs, since the first of them settles the sense.
+    pub fn sense_line(&mut self, sense: Sense) -> Result<(), LineBad>
+        ensures obeys { ObeysRules (sense_rules sense [] (given_of self.old)) (λ _. given_of self.new) result }
+        ensures header { header_of self.new ≡ header_of self.old }
+    {
+        if self.sense.is_some() {
+            return Err(LineBad::Broken(RuleKind::Repeated));
+        }
+        if !self.arcs.is_empty() {
+            return Err(LineBad::Broken(RuleKind::Repeated));
+        }
+        self.sense = Some(sense);
+        Ok(())
+    }
+
     /// `a U V A B`
     pub fn arc_line(&mut self, numbers: &[i64]) -> Result<(), LineBad>
         requires { Fits (arc_form (header_of self.old)).patterns numbers.now }
@@ -147,7 +163,8 @@ impl ParState {
         };
         let (tail, head) = (index_of(u, self.nodes), index_of(v, self.nodes));
         let arc = AffineArc { tail, head, a, b };
-        if let Some(rule) = against_arc(self.interval, self.source, self.sink, &arc) {
+        let sense = sense_or_rising(self.sense);
+        if let Some(rule) = against_arc(sense, self.interval, self.source, self.sink, &arc) {
             return Err(LineBad::Broken(rule));
         }
         self.arcs.push(arc)?;
@@ -156,22 +173,35 @@ impl ParState {
 
     /// The network of what was given.
     pub fn network(self, alloc: Global) -> Result<Net, LineBad>
-        requires { IsGoodEnd self.nodes self.interval self.source self.sink self.arcs.items }
-        ensures { ObeysRules (network_by self.nodes Rising self.interval self.source self.sink self.arcs.items) (λ net. net) result }
+        requires { IsGoodEnd self.nodes self.sense self.interval self.source self.sink self.arcs.items }
+        ensures { ObeysRules (network_by self.nodes (sense_or_rising self.sense) self.interval self.source self.sink self.arcs.items) (λ net. net) result }
     {
         let ParState {
             nodes,
             interval,
             source,
             sink,
+            sense,
             arcs,
             ..
         } = self;
         let (Some(interval), Some(s), Some(t)) = (interval, source, sink) else {
             return Err(LineBad::Broken(RuleKind::Missing));
         };
-        let net = Net::from_arcs(alloc, nodes, s, t, interval.low, interval.high, arcs)?;
+        let sense = sense_or_rising(sense);
+        let (low, high) = (interval.low, interval.high);
+        let net = Net::with_sense(alloc, sense, nodes, s, t, low, high, arcs)?;
         Ok(net)
+    }
+}
+
+// The sense that was given, or rising where none was.
+fn sense_or_rising(given: Option<Sense>) -> Sense
+    ensures { result ≡ sense_or_rising given }
+{
+    match given {
+        Some(sense) => sense,
+        None => Sense::Rising,
     }
 }
 
@@ -200,6 +230,7 @@ fn is_negative(interval: &Interval, arc: &AffineArc) -> bool
 
 // The rule that an arc breaks.
 fn against_arc(
+    sense: Sense,
     interval: Option<Interval>,
     source: Option<u32>,
     sink: Option<u32>,
@@ -207,12 +238,12 @@ fn against_arc(
 ) -> Option<RuleKind>
     requires { IsTextArc arc.now }
     ensures { (given : Given) → broken_by result (Ok (record given { arcs = given.arcs ++ arc.now ∷ [] }))
-        ≡ arc_rules_by interval source sink arc.now given }
+        ≡ arc_rules_by sense interval source sink arc.now given }
 {
     let (Some(interval), Some(s), Some(t)) = (interval, source, sink) else {
         return Some(RuleKind::Missing);
     };
-    if !keeps_rule(s, t, arc) {
+    if !keeps_rule(sense, s, t, arc) {
         return Some(RuleKind::Monotone);
     }
     if is_negative(&interval, arc) {

@@ -1,6 +1,6 @@
 //! What holds of every text of a network, and of its answers: each law is the contract of a function that does nothing.
 
-ghost use Rattle.pf_par.specs.Laws.{AcceptedIsMonotone, AcceptedIsTextNetwork, PointFromText, CurveFromText, RowsFromText, VerdictIsUnique, CertifiedIsRight};
+ghost use Rattle.pf_par.specs.Laws.{AcceptedIsMonotone, AcceptedIsTextNetwork, PointFromText, CurveFromText, VerdictIsUnique, CertifiedIsRight};
 
 /// A text of the kind `par` that is accepted gives a monotone network within the limits of texts: 2 to 1000 nodes, at most
 /// 10000 arcs, coefficients and the two numbers of each end of the interval at most 1000000000 in size, and these ends in
@@ -14,7 +14,6 @@ pub fn accepted_networks_are_monotone()
 pub fn texts_determine_answers()
     ensures point { PointFromText }
     ensures curve { CurveFromText }
-    ensures rows { RowsFromText }
 {}
 
 /// For each text behind a network there is one right verdict.

@@ -8,7 +8,7 @@ ghost use Rattle.pf_lines.specs.Reading.{Agrees, IsBehindRefusal, HasPassed};
 use crate::given::{End, ParState};
 use pf_frame::NoMemory;
 use pf_lines::{LineBad, LineForm, Lines, Pattern, ProblemKind, ReadBad, read_problem};
-use pf_net::Net;
+use pf_net::{Net, Sense};
 use std::alloc::Global;
 
 /// A number of at most a billion in size, and a denominator.
@@ -61,9 +61,10 @@ impl ProblemKind for Par {
     }
 
     fn forms(&self, alloc: Global, state: &ParState) -> Result<Vec<LineForm>, NoMemory> {
-        let (word_i, word_n, word_a) = (
+        let (word_i, word_n, word_d, word_a) = (
             Pattern::Word(b"i"),
             Pattern::Word(b"n"),
+            Pattern::Word(b"d"),
             Pattern::Word(b"a"),
         );
         let node = Pattern::Number(1, i64::from(state.nodes));
@@ -76,6 +77,8 @@ impl ProblemKind for Par {
                 alloc,
                 &[word_i, COEFFICIENT, DENOMINATOR, COEFFICIENT, DENOMINATOR],
             ),
+            LineForm::new(alloc, &[word_d, Pattern::Word(b"rising")]),
+            LineForm::new(alloc, &[word_d, Pattern::Word(b"falling")]),
         ];
         Ok(Vec::from_array(alloc, forms)?)
     }
@@ -85,7 +88,9 @@ impl ProblemKind for Par {
             0 => state.arc_line(numbers),
             1 => state.end_line(End::Source, numbers),
             2 => state.end_line(End::Sink, numbers),
-            _ => state.interval_line(numbers),
+            3 => state.interval_line(numbers),
+            4 => state.sense_line(Sense::Rising),
+            _ => state.sense_line(Sense::Falling),
         }
     }
 

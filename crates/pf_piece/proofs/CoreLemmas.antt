@@ -1,13 +1,14 @@
 -- The piece without the arcs between its ends is a monotone network within the limits.
-use Rattle.std.proofs.Common.{◌≡◌, ℕ, suc, ◌+◌, ◌≤◌, List, [], ◌∷◌, length, refl, Bool, true, false, cond, not, ◌&&◌, ◌||◌, eqb, ltb, arith, ap, ◌∙◌, inl, inr, eqb-true, eq-eqb, ne_eqb}
-use Rattle.std.specs.Prelude.{pos, int_le, All}
+use Rattle.std.proofs.Common.{◌≡◌, ℕ, suc, ◌+◌, ◌≤◌, List, [], ◌∷◌, length, refl, Bool, true, false, cond, not, ◌&&◌, ◌||◌, eqb, ltb, arith, ap, sym, ◌∙◌, inl, inr, eqb-true, eq-eqb, ne_eqb}
+use Rattle.std.specs.Prelude.{ℤ, pos, int_le, All}
 use Rattle.std.proofs.lemmas.Bool.Decides.{nat_tests}
 use Rattle.std.proofs.lemmas.Bool.{cases_Bool, or_cases}
 use Rattle.std.proofs.lemmas.List.Elements.{All-nil, All-cons}
 use Rattle.pf_model.specs.declared.AffineArc.{AffineArc}
-use Rattle.pf_model.specs.declared.Sense.TheVariants.{Rising}
+use Rattle.pf_model.specs.declared.Sense.{Sense}
+use Rattle.pf_model.specs.declared.Sense.TheVariants.{Rising, Falling}
 use Rattle.pf_model.specs.Cut.{has}
-use Rattle.pf_model.specs.Network.{IsMonotone, IsMonotoneArc}
+use Rattle.pf_model.specs.Network.{IsMonotone, IsMonotoneArc, fits_source, fits_sink}
 use Rattle.pf_model.proofs.Affine.{no_arc}
 use Rattle.pf_net.specs.Limits.{IsBuilt, IsSmallArc}
 use Rattle.pf_piece.specs.Piece.{Between, AreNested, inner_before, place, renamed, arcs_between, with_inner_end, core_of}
@@ -117,17 +118,37 @@ pub record IsCoreArc (part : Between) (arc : AffineArc) : Type 0 where
   pub monotone : IsMonotoneArc (core_of part) arc
   pub small : IsSmallArc arc
 
-core_arc : (part : Between) (arc : AffineArc) → AreNested part.net part.small part.large → part.net.sense ≡ Rising → IsMonotoneArc part.net arc → IsSmallArc arc →
+-- the rule of a sense, of which the two slopes that an end may have are in either order
+and_turned : (x y : Bool) → (x && y) ≡ (y && x)
+and_turned true true = refl
+and_turned true false = refl
+and_turned false true = refl
+and_turned false false = refl
+
+rule_turned : (out into fs ft : Bool) → cond out fs (cond into ft (fs && ft)) ≡ cond out fs (cond into ft (ft && fs))
+rule_turned out into fs ft = ap (λ z. cond out fs (cond into ft z)) (and_turned fs ft)
+
+abbrev ruled : Sense → Bool → Bool → Bool → Bool → ℤ → Bool
+ruled sense ts hs ht tt b =
+    cond (ts && not hs && not ht) (fits_source sense b) (cond (ht && not tt && not ts) (fits_sink sense b) (int_le b (pos 0) && int_le (pos 0) b))
+
+sense_kept : (sense : Sense) (s t u v p q : ℕ) (b : ℤ) → Tested s t u p → Tested s t v q → (ltb 1 p || ltb 1 q) ≡ true →
+    ruled sense (eqb u s) (eqb v s) (eqb v t) (eqb u t) b ≡ true → ruled sense (eqb p 0) (eqb q 0) (eqb q 1) (eqb p 1) b ≡ true
+sense_kept Rising s t u v p q b h k inner e = slope_kept s t u v p q (int_le (pos 0) b) (int_le b (pos 0)) h k inner e
+sense_kept Falling s t u v p q b h k inner e =
+    let before = rule_turned (eqb u s && not (eqb v s) && not (eqb v t)) (eqb v t && not (eqb u t) && not (eqb u s)) (int_le b (pos 0)) (int_le (pos 0) b) in
+    let after = rule_turned (eqb p 0 && not (eqb q 0) && not (eqb q 1)) (eqb q 1 && not (eqb p 1) && not (eqb p 0)) (int_le b (pos 0)) (int_le (pos 0) b) in
+    after ∙ slope_kept s t u v p q (int_le b (pos 0)) (int_le (pos 0) b) h k inner (sym before ∙ e)
+
+core_arc : (part : Between) (arc : AffineArc) → AreNested part.net part.small part.large → IsMonotoneArc part.net arc → IsSmallArc arc →
     (ltb 1 (place part.small part.large arc.tail) || ltb 1 (place part.small part.large arc.head)) ≡ true → IsCoreArc part (renamed (place part.small part.large) arc)
-core_arc part arc nested rising one small inner =
-    let rule_is = rw rising at one.slope in
+core_arc part arc nested one small inner =
     record {
       monotone = record {
         tail = place_below part.small part.large arc.tail part.net.nodes one.tail;
         head = place_below part.small part.large arc.head part.net.nodes one.head;
-        slope = rw rising
-            (slope_kept part.net.source part.net.sink arc.tail arc.head (place part.small part.large arc.tail) (place part.small part.large arc.head)
-            (int_le (pos 0) arc.b) (int_le arc.b (pos 0)) (tested part arc.tail nested) (tested part arc.head nested) inner rule_is);
+        slope = sense_kept part.net.sense part.net.source part.net.sink arc.tail arc.head (place part.small part.large arc.tail) (place part.small part.large arc.head)
+            arc.b (tested part arc.tail nested) (tested part arc.head nested) inner one.slope;
         low = one.low;
         high = one.high;
       };
@@ -142,14 +163,14 @@ kept_step P false first rest each here = elim (cases_Bool (ltb 1 first.tail || l
   | inr e ↦ rw e each
 ]
 
-core_arcs : (part : Between) → AreNested part.net part.small part.large → part.net.sense ≡ Rising → (arcs : List AffineArc) →
+core_arcs : (part : Between) → AreNested part.net part.small part.large → (arcs : List AffineArc) →
     All (IsMonotoneArc part.net) arcs → All IsSmallArc arcs → All (IsCoreArc part) (with_inner_end (arcs_between (place part.small part.large) arcs))
-core_arcs part nested rising [] each small = All-nil (IsCoreArc part)
-core_arcs part nested rising (arc ∷ arcs) each small =
+core_arcs part nested [] each small = All-nil (IsCoreArc part)
+core_arcs part nested (arc ∷ arcs) each small =
     kept_step (IsCoreArc part) (eqb (place part.small part.large arc.tail) (place part.small part.large arc.head)) (renamed (place part.small part.large) arc)
     (arcs_between (place part.small part.large) arcs)
-    (core_arcs part nested rising arcs (λ i d low. each (suc i) d (omega arith)) (λ i d low. small (suc i) d (omega arith)))
-    (core_arc part arc nested rising (each 0 no_arc (omega arith)) (small 0 no_arc (omega arith)))
+    (core_arcs part nested arcs (λ i d low. each (suc i) d (omega arith)) (λ i d low. small (suc i) d (omega arith)))
+    (core_arc part arc nested (each 0 no_arc (omega arith)) (small 0 no_arc (omega arith)))
 
 few_step : (same : Bool) (first : AffineArc) (rest : List AffineArc) (n : ℕ) → length rest ≤ n → length (cond same rest (first ∷ rest)) ≤ suc n
 few_step true first rest n h = omega arith
@@ -187,12 +208,11 @@ pub core_is_built : (part : Between) → IsBuilt part.net → AreNested part.net
 core_is_built part built nested =
     let m = built.monotone in
     let limits = built.limits in
-    let each = core_arcs part nested built.rising part.net.arcs m.each limits.each in
+    let each = core_arcs part nested part.net.arcs m.each limits.each in
     let nodes = few_nodes part m nested in
     let kept = few_between part.small part.large part.net.arcs in
     let inner = few_with_inner_end (arcs_between (place part.small part.large) part.net.arcs) in
     record {
-      rising = built.rising;
       monotone = record {
         source = omega arith;
         sink = omega arith;

@@ -5,14 +5,13 @@ use Rattle.std.proofs.lemmas.List.{length-map, get_or-map}
 use Rattle.std.proofs.lemmas.List.Elements.{All-nil, All-cons}
 use Rattle.pf_model.specs.declared.AffineArc.{AffineArc}
 use Rattle.pf_model.specs.declared.Sense.{Sense}
-use Rattle.pf_model.specs.declared.Sense.TheVariants.{Rising}
 use Rattle.pf_model.specs.Fraction.{Fraction}
 use Rattle.pf_model.specs.Cut.{has}
 use Rattle.pf_model.specs.Limits.{most_nodes, most_arcs}
 use Rattle.pf_model.specs.Digraph.{Digraph, IsDigraph}
 use Rattle.pf_model.specs.Network.{Network, IsNetworkCut, ends_of}
 use Rattle.pf_model.proofs.Affine.{no_arc}
-use Rattle.pf_net.specs.Limits.{IsBuilt, rising}
+use Rattle.pf_net.specs.Limits.{IsBuilt, with_sense}
 use Rattle.pf_piece.specs.Piece.{Between, AreNested, IsLift, inner_before, place, renamed, arcs_between, with_inner_end, piece_of, core_of}
 use Rattle.pf_piece.specs.Held.{HasPlaces, AreKept, IsPiece, placed, arc_at}
 use Rattle.pf_piece.proofs.Places.{place_below}
@@ -173,19 +172,20 @@ opened part places kept nodes ends frame o e = record {
 }
 
 -- the core, as the code names it
-named_step : (n n' : ℕ) (sense : Sense) (lo lo' hi hi' : Fraction) (arcs arcs' : List AffineArc) → n ≡ n' → sense ≡ Rising → lo ≡ lo' → hi ≡ hi' → arcs ≡ arcs' →
-    rising n 0 1 lo hi arcs ≡ between_ends n' sense lo' hi' arcs'
-named_step n n' sense lo lo' hi hi' arcs arcs' e s f g h = rw (e, s, f, g, h) refl
+named_step : (n n' : ℕ) (sense sense' : Sense) (lo lo' hi hi' : Fraction) (arcs arcs' : List AffineArc) → n ≡ n' → sense ≡ sense' → lo ≡ lo' → hi ≡ hi' → arcs ≡ arcs' →
+    with_sense sense n 0 1 lo hi arcs ≡ between_ends n' sense' lo' hi' arcs'
+named_step n n' sense sense' lo lo' hi hi' arcs arcs' e s f g h = rw (e, s, f, g, h) refl
 
-pub core_named : (part : Between) (n : ℕ) (lo hi : Fraction) (arcs : List AffineArc) → part.net.sense ≡ Rising → n ≡ (piece_of part).nodes →
-    lo ≡ part.net.low → hi ≡ part.net.high → arcs ≡ with_inner_end (piece_of part).arcs → rising n 0 1 lo hi arcs ≡ core_of part
-core_named part n lo hi arcs s e f g h =
-    named_step n (piece_of part).nodes part.net.sense lo part.net.low hi part.net.high arcs (with_inner_end (piece_of part).arcs) e s f g h
+pub core_named : (part : Between) (sense : Sense) (n : ℕ) (lo hi : Fraction) (arcs : List AffineArc) → sense ≡ part.net.sense → n ≡ (piece_of part).nodes →
+    lo ≡ part.net.low → hi ≡ part.net.high → arcs ≡ with_inner_end (piece_of part).arcs → with_sense sense n 0 1 lo hi arcs ≡ core_of part
+core_named part sense n lo hi arcs s e f g h =
+    named_step n (piece_of part).nodes sense part.net.sense lo part.net.low hi part.net.high arcs (with_inner_end (piece_of part).arcs) e s f g h
 
-pub core_built : (part : Between) (n : ℕ) (lo hi : Fraction) (arcs : List AffineArc) → IsBuilt part.net → AreNested part.net part.small part.large →
-    n ≡ (piece_of part).nodes → lo ≡ part.net.low → hi ≡ part.net.high → arcs ≡ with_inner_end (piece_of part).arcs → IsBuilt (rising n 0 1 lo hi arcs)
-core_built part n lo hi arcs b nested e f g h =
-    subst IsBuilt (sym (core_named part n lo hi arcs b.rising e f g h)) (core_is_built part b nested)
+pub core_built : (part : Between) (sense : Sense) (n : ℕ) (lo hi : Fraction) (arcs : List AffineArc) → IsBuilt part.net → AreNested part.net part.small part.large →
+    sense ≡ part.net.sense → n ≡ (piece_of part).nodes → lo ≡ part.net.low → hi ≡ part.net.high → arcs ≡ with_inner_end (piece_of part).arcs →
+    IsBuilt (with_sense sense n 0 1 lo hi arcs)
+core_built part sense n lo hi arcs b nested s e f g h =
+    subst IsBuilt (sym (core_named part sense n lo hi arcs s e f g h)) (core_is_built part b nested)
 
 -- places of the piece's nodes
 pub places_known : (part : Between) (places slice : List ℕ) (side : List Bool) → HasPlaces part places → slice ≡ places → IsNetworkCut (piece_of part) side →

@@ -129,13 +129,14 @@ impl<'a> Piece<'a> {
         write_lift(self.places.as_slice(), piece_side, side);
     }
 
-    /// The piece without the arcs between its source and its sink: a monotone network with the same nodes, whose smallest least cut is
+    /// The piece without the arcs between its source and its sink: a monotone network of the same sense with the same nodes, whose smallest least cut is
     /// that of the piece at every parameter.
     pub fn core(&self, alloc: Global) -> Result<Net, NoMemory>
         ensures { IfOk result (λ net. net ≡ core_of self.now) }
     {
         let arcs = inner_arcs(alloc, self)?;
         let nodes = self.node_count();
-        Net::from_arcs(alloc, nodes, 0, 1, *self.net.lo(), *self.net.hi(), arcs)
+        let (lo, hi) = (*self.net.lo(), *self.net.hi());
+        Net::with_sense(alloc, self.net.sense(), nodes, 0, 1, lo, hi, arcs)
     }
 }

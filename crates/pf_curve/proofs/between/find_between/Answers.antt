@@ -1,4 +1,5 @@
 use Rattle.std.proofs.Common.{◌≡◌, sym, subst, IfOk}
+use Rattle.pf_model.specs.declared.Sense.TheVariants.{Rising}
 use Rattle.pf_model.specs.Network.{IsInInterval, line_of}
 use Rattle.pf_envelope.specs.Envelope.{IsLeastAt}
 use Rattle.pf_piece.specs.Piece.{Between}
@@ -8,12 +9,17 @@ use Rattle.pf_curve.proofs.Contracting.{nested_ends}
 use Rattle.pf_curve.proofs.between.find_between.Goals as goal
 
 pub between-requires : goal.between-requires
-between-requires c = nested_ends c.args.net.now c.args.small.now c.args.large.now c.args.at.now c.frame.ensures.built c.requires.ends
+between-requires c = nested_ends c.args.net.now c.args.small.now c.args.large.now c.args.at.now c.frame.ensures.built c.requires.rising c.requires.ends
 
 pub find_in-requires : goal.find_in-requires
 find_in-requires c =
     let P : Between → Type 0 = λ p. IsInInterval p.net c.args.at.now in
     subst P (sym c.in_ok-piece.ensures) c.requires.inside
+
+pub lifted-requires-clause-rising : goal.lifted-requires-clause-rising
+lifted-requires-clause-rising c =
+    let P : Between → Type 0 = λ p. p.net.sense ≡ Rising in
+    subst P (sym c.in_ok-piece.ensures) c.requires.rising
 
 pub lifted-requires-clause-inside : goal.lifted-requires-clause-inside
 lifted-requires-clause-inside c =

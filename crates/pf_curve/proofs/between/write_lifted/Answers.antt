@@ -16,7 +16,7 @@ pub overflow_add-a : goal.overflow_add-a
 overflow_add-a c =
     let P : List Bool → Type 0 = λ side. IsLift c.args.piece.now side c.lift.new.side in
     let found = line_lifted c.args.piece.now c.net.result.now c.args.at.now c.args.line.now c.args.chosen.now.side.items c.lift.new.side c.args.chosen.now.a c.args.chosen.now.b
-    c.frame.ensures.built c.net.ensures c.requires.ends c.requires.line c.requires.chosen (subst P c.as_slice.ensures.value c.lift.ensures) in
+    c.frame.ensures.built c.net.ensures c.requires.rising c.requires.ends c.requires.line c.requires.chosen (subst P c.as_slice.ensures.value c.lift.ensures) in
     let e = found.a_is in
     let low = found.bounded.a_low in
     let high = found.bounded.a_high in
@@ -26,7 +26,7 @@ pub overflow_add-b : goal.overflow_add-b
 overflow_add-b c =
     let P : List Bool → Type 0 = λ side. IsLift c.args.piece.now side c.lift.new.side in
     let found = line_lifted c.args.piece.now c.net.result.now c.args.at.now c.args.line.now c.args.chosen.now.side.items c.lift.new.side c.args.chosen.now.a c.args.chosen.now.b
-    c.frame.ensures.built c.net.ensures c.requires.ends c.requires.line c.requires.chosen (subst P c.as_slice.ensures.value c.lift.ensures) in
+    c.frame.ensures.built c.net.ensures c.requires.rising c.requires.ends c.requires.line c.requires.chosen (subst P c.as_slice.ensures.value c.lift.ensures) in
     let e = found.b_is in
     let low = found.bounded.b_low in
     let high = found.bounded.b_high in
@@ -36,7 +36,7 @@ pub new-requires : goal.new-requires
 new-requires c =
     let P : List Bool → Type 0 = λ side. IsLift c.args.piece.now side c.lift.new.side in
     let found = line_lifted c.args.piece.now c.net.result.now c.args.at.now c.args.line.now c.args.chosen.now.side.items c.lift.new.side c.args.chosen.now.a c.args.chosen.now.b
-    c.frame.ensures.built c.net.ensures c.requires.ends c.requires.line c.requires.chosen (subst P c.as_slice.ensures.value c.lift.ensures) in
+    c.frame.ensures.built c.net.ensures c.requires.rising c.requires.ends c.requires.line c.requires.chosen (subst P c.as_slice.ensures.value c.lift.ensures) in
     let e = found.a_is in
     let f = found.b_is in
     let bounds = found.bounded in
@@ -57,13 +57,13 @@ pub returns-clause-smallest : goal.returns-clause-smallest
 returns-clause-smallest c =
     let P : List Bool → Type 0 = λ side. IsLift c.args.piece.now side c.lift.new.side in
     smallest_found c.args.piece.now c.net.result.now c.args.at.now c.args.chosen.now.side.items c.lift.new.side c.frame.ensures.built c.net.ensures
-    c.requires.ends c.requires.chosen.smallest (subst P c.as_slice.ensures.value c.lift.ensures)
+    c.requires.rising c.requires.ends c.requires.chosen.smallest (subst P c.as_slice.ensures.value c.lift.ensures)
 
 pub returns-clause-line : goal.returns-clause-line
 returns-clause-line c =
     let P : List Bool → Type 0 = λ side. IsLift c.args.piece.now side c.lift.new.side in
     let found = line_lifted c.args.piece.now c.net.result.now c.args.at.now c.args.line.now c.args.chosen.now.side.items c.lift.new.side c.args.chosen.now.a c.args.chosen.now.b
-    c.frame.ensures.built c.net.ensures c.requires.ends c.requires.line c.requires.chosen (subst P c.as_slice.ensures.value c.lift.ensures) in
+    c.frame.ensures.built c.net.ensures c.requires.rising c.requires.ends c.requires.line c.requires.chosen (subst P c.as_slice.ensures.value c.lift.ensures) in
     let e = found.a_is in
     let f = found.b_is in
     let bounds = found.bounded in

@@ -5,7 +5,7 @@ pub envelope-requires-clause-interval : goal.envelope-requires-clause-interval
 envelope-requires-clause-interval g c = rw (c.lo.ensures, c.hi.ensures) c.frame.ensures.built.monotone.interval
 
 pub envelope-requires-clause-low_served : goal.envelope-requires-clause-low_served
-envelope-requires-clause-low_served g c = rw c.in_ok-finder.ensures (end_served c.in_ok-net.net c.lo.result.now c.frame.ensures.built.monotone c.lo.ensures)
+envelope-requires-clause-low_served g c = rw c.in_ok-finder.ensures (end_served c.in_ok-net.net c.lo.result.now c.frame.ensures.built.monotone c.in_ok-net.ensures c.lo.ensures)
 
 pub envelope-requires-clause-high_served : goal.envelope-requires-clause-high_served
-envelope-requires-clause-high_served g c = rw c.in_ok-finder.ensures (high_end_served c.in_ok-net.net c.hi.result.now c.frame.ensures.built.monotone c.hi.ensures)
+envelope-requires-clause-high_served g c = rw c.in_ok-finder.ensures (high_end_served c.in_ok-net.net c.hi.result.now c.frame.ensures.built.monotone c.in_ok-net.ensures c.hi.ensures)

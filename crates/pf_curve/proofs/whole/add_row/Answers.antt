@@ -17,11 +17,11 @@ next_row-requires-clause-inside c =
 
 pub next_row-requires-clause-before : goal.next_row-requires-clause-before
 next_row-requires-clause-before c =
-    row_at_point c.args.finder.now c.args.points.now c.args.i (c.args.i - 1) c.args.table.now c.index-points-previous.result c.row.result.now c.requires.rows (omega arith)
-    (point_in c.args.finder.now c.args.points.now (c.args.i - 1) c.index-points-previous.result (omega (arith, c.requires.point)) c.index-points-previous.is) c.row.ensures
+    row_at_point c.args.finder.now c.args.points.now c.args.i (c.args.i - 1) c.args.rows.now c.index-points-previous.result c.row_at-before.result.now c.requires.rows (omega arith)
+    (point_in c.args.finder.now c.args.points.now (c.args.i - 1) c.index-points-previous.result (omega (arith, c.requires.point)) c.index-points-previous.is) c.row_at-before.ensures
 
 pub returns-clause-rows : goal.returns-clause-rows
 returns-clause-rows c =
-    filling_goes_on c.args.finder.now c.args.points.now c.args.i c.args.table.now c.push-2.new.self c.index-points-i.result c.in_ok-row-2.row c.requires.rows
+    filling_goes_on c.args.finder.now c.args.points.now c.args.i c.args.rows.now c.push-2.new.self c.index-points-i.result c.in_ok-row-2.row c.requires.rows
     c.in_ok-push-2.ensures.added (point_in c.args.finder.now c.args.points.now c.args.i c.index-points-i.result c.requires.point c.index-points-i.is)
     c.in_ok-row-2.ensures.found

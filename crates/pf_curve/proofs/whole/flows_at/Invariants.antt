@@ -6,5 +6,5 @@ abbrev pub invariant-points : goal.invariant-points
 invariant-points l = record {
   same : l.finder ≡ l.fn.finder;
   most : l.i ≤ length l.points;
-  filled : AreFilled l.fn.finder l.points l.i l.table;
+  filled : AreFilled l.fn.finder l.points l.i l.rows;
 }

@@ -5,6 +5,9 @@ use Rattle.pf_curve.specs.Cuts.{IsCutFound, IsLineOfCut}
 use Rattle.pf_curve.proofs.Contracting.{ends_between, ends_here, served_inside}
 use Rattle.pf_curve.proofs.family.CutsFamily.least.Goals as goal
 
+pub find_between-requires-clause-rising : goal.find_between-requires-clause-rising
+find_between-requires-clause-rising c = ap (λ (net : Network). net.sense) c.net-net.ensures ∙ c.requires.left_served.rising
+
 pub find_between-requires-clause-inside : goal.find_between-requires-clause-inside
 find_between-requires-clause-inside c =
     let P : Network → Type 0 = λ net. IsInInterval net c.args.at.now in

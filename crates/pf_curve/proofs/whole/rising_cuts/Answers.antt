@@ -6,16 +6,16 @@ use Rattle.pf_model.specs.Curve.{IsCurve}
 use Rattle.pf_model.specs.Answer.{IsFractionShape}
 use Rattle.pf_curve.specs.CutFunction.{CutFunction}
 use Rattle.pf_curve.proofs.Envelopes.{curve_of_parts, end_served, high_end_served}
-use Rattle.pf_curve.proofs.whole.cuts_of.Goals as goal
+use Rattle.pf_curve.proofs.whole.rising_cuts.Goals as goal
 
 pub envelope-requires-clause-interval : goal.envelope-requires-clause-interval
 envelope-requires-clause-interval c = rw (c.lo.ensures, c.hi.ensures) c.frame.ensures.built.monotone.interval
 
 pub envelope-requires-clause-low_served : goal.envelope-requires-clause-low_served
-envelope-requires-clause-low_served c = rw c.in_ok-finder.ensures (end_served c.args.net.now c.lo.result.now c.frame.ensures.built.monotone c.lo.ensures)
+envelope-requires-clause-low_served c = rw c.in_ok-finder.ensures (end_served c.args.net.now c.lo.result.now c.frame.ensures.built.monotone c.requires c.lo.ensures)
 
 pub envelope-requires-clause-high_served : goal.envelope-requires-clause-high_served
-envelope-requires-clause-high_served c = rw c.in_ok-finder.ensures (high_end_served c.args.net.now c.hi.result.now c.frame.ensures.built.monotone c.hi.ensures)
+envelope-requires-clause-high_served c = rw c.in_ok-finder.ensures (high_end_served c.args.net.now c.hi.result.now c.frame.ensures.built.monotone c.requires c.hi.ensures)
 
 curve_made : (net : Network) (points : List Fraction) (cuts : List (List Bool)) (made : CutFunction) →
     made ≡ record { points = points; cuts = cuts } → IsCurve net points cuts → IsCurve net made.points made.cuts
