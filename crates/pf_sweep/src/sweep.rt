@@ -1,0 +1,446 @@
+// A sweep through rising parameters, and its rows.
+ghost use Rattle.std.specs.Prelude.{◌≡◌, ◌↔◌, ◌+◌, ◌<◌, ◌≤◌, ◌^◌, length, map, true, cond, ℤ, pos, ◌≤ℤ◌, ◌<ℤ◌, ◌*ℤ◌, IfOk, Err};
+ghost use Rattle.pf_model.specs.declared.Sense.TheVariants.{Rising};
+ghost use Rattle.pf_model.specs.Fraction.{IsBoundedFraction, lowest};
+ghost use Rattle.pf_model.specs.Line.{value_at};
+ghost use Rattle.pf_model.specs.Cut.{IsSmallestLeast, IsLeastValue, size};
+ghost use Rattle.pf_model.specs.Flow.{IsGreatest, flow_value};
+ghost use Rattle.pf_model.specs.Residual.{HasValidLabels};
+ghost use Rattle.pf_model.specs.Network.{IsInInterval, network_at, ends_of};
+ghost use Rattle.pf_frame.specs.Scratch.{Serves, KeepsPlaces};
+ghost use Rattle.pf_net.specs.Limits.{IsBuilt};
+ghost use Rattle.pf_preflow.specs.Engine.{AreLow};
+ghost use Rattle.pf_carry.specs.Scaling.{IsFloor};
+ghost use Rattle.pf_sweep.specs.Parameters.{of_units, most_unit, HasNearEnds, IsNearEnd, IsMultiple};
+ghost use Rattle.pf_sweep.specs.Swept.{IsEngineOf, IsKept, IsMade, IsAdvanced, IsSettled, network_of_sweep, parameter_of};
+ghost use Rattle.pf_sweep.specs.Moving.{caps_of};
+ghost use Rattle.pf_sweep.specs.Rows.{IsRightRow, turned_row};
+
+use crate::moving::{move_first, move_on};
+use pf_frame::{NoMemory, Scratch, reach, value};
+use pf_net::Net;
+use pf_preflow::Engine;
+use pf_rat::{Line, Rat};
+use pf_steps::Steps;
+use std::alloc::Global;
+use std::marker::Model;
+use std::sync::ledger::Ledger;
+use thiserror::Error;
+
+/// Why there is no sweep.
+#[derive(Clone, Copy, Debug, PartialEq, Eq, Error)]
+pub enum SweepBad {
+    #[error("too fine")]
+    TooFine,
+    #[error("no memory")]
+    NoMemory,
+}
+
+impl From<NoMemory> for SweepBad {
+    ghost use Rattle.pf_sweep.specs.declared.sweep.SweepBad.TheVariants.{NoMemory};
+
+    ghost from_gives = { λ _ bad. bad ≡ NoMemory };
+
+    fn from(_error: NoMemory) -> SweepBad {
+        SweepBad::NoMemory
+    }
+}
+
+/// The least value at a parameter `p/q`, in units of `1/q`, and the number of nodes of the smallest least cut there. It comes out of
+/// a sweep alone.
+#[derive(Clone, Copy, Debug)]
+pub struct SweepRow {
+    at: Rat,
+    least: i128,
+    nodes: u32,
+}
+
+impl Model for SweepRow {
+    ghost use Rattle.pf_model.specs.Answer.{Row, IsRowShape};
+
+    ghost Value = { Row };
+
+    ghost view = { λ r. record { at = r.at; value = r.least; size = r.nodes } };
+
+    ghost inverse = { λ x. record { at = x.at; least = x.value; nodes = x.size } };
+
+    ghost invariant = { λ r. IsRowShape (record { at = r.at; value = r.least; size = r.nodes }) };
+}
+
+impl SweepRow {
+    /// The parameter.
+    pub fn at(&self) -> Rat
+        ensures { result ≡ self.now.at }
+    {
+        self.at
+    }
+
+    /// The least value at the parameter `p/q`, in units of `1/q`.
+    pub fn value(&self) -> i128
+        ensures { result ≡ self.now.value }
+    {
+        self.least
+    }
+
+    /// The number of nodes of the smallest least cut.
+    pub fn size(&self) -> u32
+        ensures { result ≡ self.now.size }
+    {
+        self.nodes
+    }
+
+    /// The row of the mirror, whose parameters are negated: this row with its parameter negated, and all else the same.
+    pub fn turned(&self) -> SweepRow
+        ensures { result ≡ turned_row self.now }
+    {
+        let at = Rat::new(-self.at.p(), self.at.q());
+        SweepRow {
+            at,
+            least: self.least,
+            nodes: self.nodes,
+        }
+    }
+}
+
+/// A greatest flow at a parameter that only rises, and the labels with which it was found. Parameters are `p/unit` with one unit
+/// for the whole sweep; flows are in units of `1/unit`. Contracts see the network, the unit, `p`, the flow and the labels.
+#[derive(Drop)]
+pub struct Sweep<'a> {
+    net: &'a Net,
+    unit: i128,
+    at: i128,
+    engine: Engine,
+    scratch: Scratch,
+    caps: Vec<i128>,
+    flow: Vec<i128>,
+    // The smallest least cut when it was last sought, with its line and the number of its nodes.
+    side: Vec<bool>,
+    line: Line,
+    count: u32,
+}
+
+impl<'a> Model for Sweep<'a> {
+    ghost use Rattle.pf_sweep.specs.Swept.{Swept, IsSweep};
+
+    ghost Value = { Swept };
+
+    ghost view = { λ s. record { net = s.net.now; unit = s.unit; at = s.at; flow = s.flow.items; labels = s.engine.labels } };
+
+    ghost invariant = { λ s. IsSweep (record { net = s.net.now; unit = s.unit; at = s.at; flow = s.flow.items; labels = s.engine.labels })
+        s.engine s.scratch s.caps.items s.side.items s.line s.count };
+}
+
+// The quotient, rounded down.
+fn quotient(x: i128, d: i128) -> i128
+    requires low { pos 1 ≤ℤ x }
+    requires high { x ≤ℤ pos most_unit }
+    requires divisor { pos 1 ≤ℤ d }
+    ensures floor { IsFloor x d result }
+    ensures low { pos 0 ≤ℤ result }
+    ensures high { result ≤ℤ pos most_unit }
+{
+    x / d
+}
+
+// The low end of the interval, in units of `1/unit`.
+fn start_of(lo: &Rat, unit: i128) -> i128
+    requires low { pos 1 ≤ℤ unit }
+    requires high { unit ≤ℤ pos most_unit }
+    requires near { IsNearEnd lo.now }
+    requires whole { IsMultiple unit lo.now.q }
+    ensures equal { result *ℤ lo.now.q ≡ lo.now.p *ℤ unit }
+    ensures bounds { IsBoundedFraction (of_units unit result) }
+{
+    let q = lo.q();
+    prove!(q >= 1);
+    lo.p() * quotient(unit, q)
+}
+
+// One more, where the node is in the side.
+fn count_node(inside: bool, count: u32) -> u32
+    requires { count < 8192 }
+    ensures { result ≡ count + cond inside 1 0 }
+{
+    if inside { count + 1 } else { count }
+}
+
+// The number of nodes of a side.
+fn count_nodes(side: &[bool]) -> u32
+    requires { length side.now ≤ 8192 }
+    ensures { result ≡ size side.now }
+{
+    let mut count = 0;
+    'nodes: for v in 0..side.len() {
+        count = count_node(side[v], count);
+    }
+    count
+}
+
+// Seeks the smallest least cut: its line, and the number of its nodes.
+fn seek(
+    net: &Net,
+    unit: i128,
+    p: i128,
+    caps: &[i128],
+    flow: &[i128],
+    scratch: &mut Scratch,
+    side: &mut [bool],
+) -> (Line, u32)
+    requires rising { net.now.sense ≡ Rising }
+    requires inside { IsInInterval net.now (of_units unit p) }
+    requires bounds { IsBoundedFraction (of_units unit p) }
+    requires caps { caps.now ≡ caps_of net.now unit p }
+    requires greatest { IsGreatest (network_at net.now (of_units unit p)) flow.now }
+    requires room { Serves scratch.old net.now.nodes (length net.now.arcs) }
+    requires places { length side.old ≡ net.now.nodes }
+    ensures kept { IsKept net.now (of_units unit p) side.new result.0 result.1 }
+    ensures smallest { IsSmallestLeast (network_at net.now (of_units unit p)) side.new }
+    ensures places { KeepsPlaces scratch.old scratch.new }
+{
+    let frame = net.frame();
+    reach(frame, caps, flow, net.source(), scratch, side);
+    (net.cut_line(side), count_nodes(side))
+}
+
+// The value of a line at the parameter `p/unit`, in units of `1/unit`.
+fn line_value(line: &Line, unit: i128, p: i128) -> i128
+    requires { IsBoundedFraction (of_units unit p) }
+    ensures { result ≡ value_at line.now (of_units unit p) }
+{
+    line.a() * unit + line.b() * p
+}
+
+// Whether the line of the kept cut is the value of the flow still.
+fn is_least_still(net: &Net, unit: i128, p: i128, flow: &[i128], line: &Line) -> bool
+    requires inside { IsInInterval net.now (of_units unit p) }
+    requires bounds { IsBoundedFraction (of_units unit p) }
+    requires greatest { IsGreatest (network_at net.now (of_units unit p)) flow.now }
+    ensures built { IsBuilt net.now }
+    ensures least { result ≡ true → value_at line.now (of_units unit p) ≡ flow_value (map ends_of net.now.arcs) flow.now net.now.source }
+{
+    let least = value(net.frame(), net.source(), flow);
+    let here = line_value(line, unit, p);
+    here == least
+}
+
+// Seeks the cut anew where its line is not the value of the flow any more. Cuts grow with the parameter, so one that is least still
+// is the smallest least one.
+fn keep(
+    net: &Net,
+    unit: i128,
+    p: i128,
+    caps: &[i128],
+    flow: &[i128],
+    scratch: &mut Scratch,
+    side: &mut [bool],
+    line: Line,
+    count: u32,
+) -> (Line, u32)
+    requires inside { IsInInterval net.now (of_units unit p) }
+    requires bounds { IsBoundedFraction (of_units unit p) }
+    requires caps { caps.now ≡ caps_of net.now unit p }
+    requires greatest { IsGreatest (network_at net.now (of_units unit p)) flow.now }
+    requires room { Serves scratch.old net.now.nodes (length net.now.arcs) }
+    requires kept { IsKept net.now (of_units unit p) side.old line count }
+    ensures kept { IsKept net.now (of_units unit p) side.new result.0 result.1 }
+    ensures smallest { IsSmallestLeast (network_at net.now (of_units unit p)) side.new }
+    ensures places { KeepsPlaces scratch.old scratch.new }
+{
+    if is_least_still(net, unit, p, flow, &line) {
+        return (line, count);
+    }
+    seek(net, unit, p, caps, flow, scratch, side)
+}
+
+// The row of a parameter, of the line and the size of the smallest least cut.
+fn row_of(net: &Net, unit: i128, p: i128, side: &[bool], line: Line, count: u32) -> SweepRow
+    requires inside { IsInInterval net.now (of_units unit p) }
+    requires bounds { IsBoundedFraction (of_units unit p) }
+    requires kept { IsKept net.now (of_units unit p) side.now line count }
+    requires smallest { IsSmallestLeast (network_at net.now (of_units unit p)) side.now }
+    ensures { IsRightRow net.now (lowest (of_units unit p)) result }
+{
+    let _ = net.frame().nodes();
+    let at = Rat::new(p, unit);
+    let _ = line.a();
+    let least = line.at(&at);
+    SweepRow {
+        at,
+        least,
+        nodes: count,
+    }
+}
+
+// A greatest flow at the parameter `p/unit` of the interval, made from nothing, and the smallest least cut there.
+fn start_at(
+    net: &Net,
+    engine: &mut Engine,
+    scratch: &mut Scratch,
+    unit: i128,
+    p: i128,
+    caps: &mut [i128],
+    flow: &mut [i128],
+    side: &mut [bool],
+) -> (Line, u32)
+    requires rising { net.now.sense ≡ Rising }
+    requires bounds { IsBoundedFraction (of_units unit p) }
+    requires inside { IsInInterval net.now (of_units unit p) }
+    requires engine { IsEngineOf net.now engine.old }
+    requires caps { length caps.old ≡ length net.now.arcs }
+    requires flow { length flow.old ≡ length net.now.arcs }
+    requires room { Serves scratch.old net.now.nodes (length net.now.arcs) }
+    requires places { length side.old ≡ net.now.nodes }
+    ensures engine { IsEngineOf net.now engine.new }
+    ensures caps { caps.new ≡ caps_of net.now unit p }
+    ensures greatest { IsGreatest (network_at net.now (of_units unit p)) flow.new }
+    ensures valid { HasValidLabels (network_at net.now (of_units unit p)) flow.new engine.new.labels }
+    ensures low { AreLow net.now.nodes engine.new.labels }
+    ensures kept { IsKept net.now (of_units unit p) side.new result.0 result.1 }
+    ensures places { KeepsPlaces scratch.old scratch.new }
+{
+    move_first(net, engine, unit, p, caps, flow);
+    seek(net, unit, p, caps, flow, scratch, side)
+}
+
+// A sweep whose unit is not too great.
+fn open<'a>(alloc: Global, net: &'a Net, unit: i128) -> Result<Sweep<'a>, NoMemory>
+    requires rising { net.now.sense ≡ Rising }
+    requires low { pos 1 ≤ℤ unit }
+    requires high { unit ≤ℤ pos most_unit }
+    requires ends { HasNearEnds net.now }
+    requires whole { IsMultiple unit net.now.low.q }
+    ensures { IfOk result (IsMade net.now unit) }
+{
+    let frame = net.frame();
+    let nodes = frame.nodes() as usize;
+    let arcs = frame.arcs() as usize;
+    let at = start_of(net.lo(), unit);
+    let mut engine = Engine::make(alloc, frame, net.source(), net.sink())?;
+    let mut scratch = Scratch::make(alloc, nodes, arcs)?;
+    let mut caps = vec![in alloc; 0i128; arcs]?;
+    let mut flow = vec![in alloc; 0i128; arcs]?;
+    let mut side = vec![in alloc; false; nodes]?;
+    let (line, count) = start_at(
+        net,
+        &mut engine,
+        &mut scratch,
+        unit,
+        at,
+        &mut caps,
+        &mut flow,
+        &mut side,
+    );
+    Ok(Sweep {
+        net,
+        unit,
+        at,
+        engine,
+        scratch,
+        caps,
+        flow,
+        side,
+        line,
+        count,
+    })
+}
+
+impl<'a> Sweep<'a> {
+    /// A sweep at the low end of the interval of a rising network, with a greatest flow there in units of `1/unit`. It is `TooFine` exactly
+    /// where `unit` is above `2^40`; the only other error is `NoMemory`. No other call takes memory.
+    pub fn make(alloc: Global, net: &'a Net, unit: i128) -> Result<Sweep<'a>, SweepBad>
+        requires rising { net.now.sense ≡ Rising }
+        requires unit { pos 1 ≤ℤ unit }
+        requires ends { HasNearEnds net.now }
+        requires whole { IsMultiple unit net.now.low.q }
+        ensures made { IfOk result (IsMade net.now unit) }
+        ensures fine { (result ≡ Err SweepBad.TooFine) ↔ (pos most_unit <ℤ unit) }
+    {
+        if 1 << 40 < unit {
+            return Err(SweepBad::TooFine);
+        }
+        Ok(open(alloc, net, unit)?)
+    }
+
+    /// Goes on to the parameter `p/unit` of the interval, which is not below the last one: the flow is greatest there, no label has
+    /// fallen, and a step is counted each time that a label rose.
+    pub fn advance<L: Ledger>(&mut self, p: i128, steps: &mut Steps<L>)
+        requires inside { IsInInterval self.old.net (of_units self.old.unit p) }
+        requires later { self.old.at ≤ℤ p }
+        ensures { IsAdvanced self.old self.new p steps.old steps.new }
+    {
+        self.at = p;
+        move_on(
+            self.net,
+            &mut self.engine,
+            self.unit,
+            p,
+            &mut self.caps,
+            &mut self.flow,
+            steps,
+        );
+    }
+
+    /// The least value at the parameter: what the flow brings, in units of `1/unit`.
+    pub fn value(&self) -> i128
+        ensures least { IsLeastValue (network_of_sweep self.now) result }
+        ensures settled { IsSettled self.now }
+    {
+        value(self.net.frame(), self.net.source(), &self.flow)
+    }
+
+    /// Writes the smallest least cut at the parameter. `side` is indexed by nodes.
+    pub fn side(&mut self, side: &mut [bool])
+        requires { length side.old ≡ self.old.net.nodes }
+        ensures smallest { IsSmallestLeast (network_of_sweep self.old) side.new }
+        ensures same { self.new ≡ self.old }
+    {
+        let (line, count) = seek(
+            self.net,
+            self.unit,
+            self.at,
+            &self.caps,
+            &self.flow,
+            &mut self.scratch,
+            side,
+        );
+        let _ = (line, count);
+    }
+
+    /// One label for each node: the number of nodes at the source, 0 at the sink, at most `2n - 2` anywhere.
+    pub fn labels(&self) -> &[u32]
+        ensures value { result.now ≡ self.now.labels }
+        ensures settled { IsSettled self.now }
+    {
+        self.engine.labels()
+    }
+
+    /// The flow, indexed by arcs, in units of `1/unit`.
+    pub fn flow(&self) -> &[i128]
+        ensures value { result.now ≡ self.now.flow }
+        ensures settled { IsSettled self.now }
+    {
+        self.flow.as_slice()
+    }
+
+    /// The row of the parameter: the parameter in lowest terms, the least value there in units of `1/q` of that fraction, and the
+    /// least size. Parameter, flow and labels stay.
+    pub fn row(&mut self) -> SweepRow
+        ensures right { IsRightRow self.old.net (lowest (parameter_of self.old)) result }
+        ensures same { self.new ≡ self.old }
+    {
+        let (line, count) = keep(
+            self.net,
+            self.unit,
+            self.at,
+            &self.caps,
+            &self.flow,
+            &mut self.scratch,
+            &mut self.side,
+            self.line,
+            self.count,
+        );
+        self.line = line;
+        self.count = count;
+        row_of(self.net, self.unit, self.at, &self.side, line, count)
+    }
+}
