@@ -11,7 +11,6 @@ pub mod Examples
 pub mod RatioLemmas
 pub mod SideSums
 pub mod NetBuilt
-pub mod TextLemmas
 pub mod TextLaw
 pub mod GatheringLemmas
 pub mod SameAnswers

@@ -163,7 +163,7 @@ net_limits p b =
     }
 
 pub net_built : (p : ClosureProblem) → IsBoundedProblem p → IsBuilt (closure_net p)
-net_built p b = record { rising = refl; monotone = net_monotone p b; limits = net_limits p b }
+net_built p b = record { monotone = net_monotone p b; limits = net_limits p b }
 
 -- and it is made of these parts
 same_parts : (n n' s s' : ℕ) (l l' h h' : Fraction) (xs xs' : List AffineArc) → n ≡ n' → s ≡ s' → l ≡ l' → h ≡ h' → xs ≡ xs' →

@@ -246,7 +246,7 @@ newton_answers p x side last flow r items n point off small shape same same' res
       shape = record {
         ratio = subst IsFractionShape (sym same) shape;
         chosen = c.full;
-        routing_full = c.routing_is.full;
-        routing = routing_shape p r.routing c.routing_is;
+        full = c.routing_is.full;
+        each = routing_shape p r.routing c.routing_is;
       };
     }

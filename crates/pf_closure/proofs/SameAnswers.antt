@@ -1,104 +1,25 @@
 -- Answers of the right shape with equal texts are equal.
-use Rattle.std.proofs.Common.{◌≡◌, ℕ, ◌<◌, ◌^◌, List, [], ◌∷◌, ◌++◌, length, get_or, drop, map, refl, sym, ap, ◌∙◌, append_assoc, arith, true, subst}
-use Rattle.std.specs.Prelude.{◌↔◌, ℤ, Bool, nat_abs, codes}
-use Rattle.std.specs.List.{AllByRecursion}
-use Rattle.std.specs.Fmt.{signed_decimal}
-use Rattle.std.proofs.lemmas.Int.{ints}
-use Rattle.std.proofs.lemmas.List.{append-nil}
-use Rattle.std.proofs.lemmas.List.Elements.{recursion_from_All}
+use Rattle.std.proofs.Common.{◌≡◌, ℕ, List, length, Bool, true, sym, ◌∙◌, subst}
+use Rattle.std.specs.Prelude.{◌↔◌, ℤ, codes}
 use Rattle.pf_model.specs.Fraction.{Fraction}
-use Rattle.pf_model.specs.Answer.{IsWithinSize, IsFractionShape}
-use Rattle.pf_text.specs.Spelling.{line, side_text}
-use Rattle.pf_text.proofs.NumbersLemmas.{one_number}
-use Rattle.pf_text.proofs.TextLines.{ArePlain, lines_text, same_lines, signed_plain, numbers_plain, side_plain, same_side}
+use Rattle.pf_ratio.proofs.SameAnswers as parts
 use Rattle.pf_closure.specs.Problem.{ClosureProblem, IsClosureProblem}
 use Rattle.pf_closure.specs.Certificate.{RatioAnswer, CertifiesRatio}
 use Rattle.pf_closure.specs.Text.{ratio_text}
 use Rattle.pf_closure.specs.Right.{IsRatioShape, IsRightRatio, IsCertifiedRatio}
 use Rattle.pf_closure.proofs.Soundness.{certificate_proves}
-use Rattle.pf_closure.proofs.TextLemmas.{answer_of}
 
--- ---- parts
-
-within_digits : (x : ℤ) → IsWithinSize (2 ^ 104) x → nat_abs x < 10 ^ 64
-within_digits x size =
-    let low = size.low in
-    let high = size.high in
-    omega (arith, ints, low, high)
-
-abbrev fraction_of : ℤ → ℤ → Fraction
-fraction_of p q = record { p = p; q = q }
-
-of_parts : (p p' q q' : ℤ) → p ≡ p' → q ≡ q' → fraction_of p q ≡ fraction_of p' q'
-of_parts p p' q q' e f = cc
-
-same_fraction : (x y : Fraction) → IsFractionShape x → IsFractionShape y → signed_decimal x.p ≡ signed_decimal y.p → signed_decimal x.q ≡ signed_decimal y.q → x ≡ y
-same_fraction x y shape shape' p q =
-    let size : (z : Fraction) → IsFractionShape z → (nat_abs z.p < 10 ^ 64) × (nat_abs z.q < 10 ^ 64) = λ z s. (let a = s.bounds.p_low in let b = s.bounds.p_high in omega (arith, ints, a, b), let c = s.bounds.parameter in let d = s.bounds.q_high in omega (arith, ints, c, d)) in
-    let same_p = one_number x.p y.p (size x shape).0 (size y shape').0 p in
-    let same_q = one_number x.q y.q (size x shape).1 (size y shape').1 q in
-    of_parts x.p y.p x.q y.q same_p same_q
-
-same_numbers : (a b : List ℤ) → AllByRecursion (IsWithinSize (2 ^ 104)) a → AllByRecursion (IsWithinSize (2 ^ 104)) b → map signed_decimal a ≡ map signed_decimal b → a ≡ b
-same_numbers [] [] sa sb e = refl
-same_numbers [] (y ∷ b) sa sb e = absurd cc
-same_numbers (x ∷ a) [] sa sb e = absurd cc
-same_numbers (x ∷ a) (y ∷ b) sa sb e =
-    let first : signed_decimal x ≡ signed_decimal y = cc in
-    let later : map signed_decimal a ≡ map signed_decimal b = cc in
-    let here = one_number x y (within_digits x sa.0) (within_digits y sb.0) first in
-    let back = same_numbers a b sa.1 sb.1 later in
-    cc
-
--- ---- the lines of an answer
-
-abbrev answer_lines : RatioAnswer → List (List (List ℕ))
-answer_lines answer =
-    (codes "o" ∷ codes "closure" ∷ []) ∷ (codes "r" ∷ signed_decimal answer.ratio.p ∷ signed_decimal answer.ratio.q ∷ []) ∷ (codes "s" ∷ side_text answer.chosen ∷ [])
-    ∷ (codes "f" ∷ map signed_decimal answer.routing) ∷ (codes "end" ∷ []) ∷ []
-
-five : (a b c d e : List ℕ) → a ++ b ++ c ++ d ++ e ≡ a ++ (b ++ (c ++ (d ++ (e ++ []))))
-five a b c d e = simp (append_assoc, append-nil)
-
-ratio_text_is : (answer : RatioAnswer) → ratio_text answer ≡ lines_text (answer_lines answer)
-unfolding ratio_text
-ratio_text_is answer =
-    five (line (codes "o" ∷ codes "closure" ∷ [])) (line (codes "r" ∷ signed_decimal answer.ratio.p ∷ signed_decimal answer.ratio.q ∷ [])) (line (codes "s" ∷ side_text answer.chosen ∷ []))
-    (line (codes "f" ∷ map signed_decimal answer.routing)) (line (codes "end" ∷ []))
-
-lines_plain : (answer : RatioAnswer) → 0 < length answer.chosen → AllByRecursion ArePlain (answer_lines answer)
-lines_plain answer some = (
-  (record { some = omega arith; all = refl }, (record { some = omega arith; all = refl }, tt)),
-  (
-    (record { some = omega arith; all = refl }, (signed_plain _, (signed_plain _, tt))),
-    (
-      (record { some = omega arith; all = refl }, (side_plain answer.chosen some, tt)),
-      (
-        (record { some = omega arith; all = refl }, numbers_plain answer.routing),
-        ((record { some = omega arith; all = refl }, tt), tt),
-      ),
-    ),
-  ),
-)
-
-abbrev field_at : ℕ → ℕ → List (List (List ℕ)) → List ℕ
-field_at i j lines = get_or (get_or lines i []) j []
+abbrev answer_of : Fraction → List Bool → List ℤ → RatioAnswer
+answer_of ratio chosen routing = record { ratio = ratio; chosen = chosen; routing = routing }
 
 same_parts : (x x' : Fraction) (set set' : List Bool) (numbers numbers' : List ℤ) → x ≡ x' → set ≡ set' → numbers ≡ numbers' → answer_of x set numbers ≡ answer_of x' set' numbers'
 same_parts x x' set set' numbers numbers' e f g = cc
 
 pub one_answer : (p : ClosureProblem) (a b : RatioAnswer) → IsClosureProblem p → IsRatioShape p a → IsRatioShape p b → ratio_text a ≡ ratio_text b → a ≡ b
+unfolding ratio_text
 one_answer p a b problem sa sb e =
-    let some = problem.some in
-    let chosen_a = sa.chosen in
-    let chosen_b = sb.chosen in
-    let lines : answer_lines a ≡ answer_lines b =
-    same_lines (answer_lines a) (answer_lines b) (lines_plain a (omega (arith, some, chosen_a))) (lines_plain b (omega (arith, some, chosen_b))) (sym (ratio_text_is a) ∙ e ∙ ratio_text_is b) in
-    let ratio = same_fraction a.ratio b.ratio sa.ratio sb.ratio (ap (field_at 1 1) lines) (ap (field_at 1 2) lines) in
-    let chosen = same_side a.chosen b.chosen (ap (field_at 2 1) lines) in
-    let routing = same_numbers a.routing b.routing (recursion_from_All (IsWithinSize (2 ^ 104)) a.routing sa.routing) (recursion_from_All (IsWithinSize (2 ^ 104)) b.routing sb.routing)
-    (ap (λ (ls : List (List (List ℕ))). drop 1 (get_or ls 3 [])) lines) in
-    same_parts a.ratio b.ratio a.chosen b.chosen a.routing b.routing ratio chosen routing
+    let same = parts.one_answer (codes "closure") (codes "r") (length p.costs) (length p.needs) a.ratio b.ratio a.chosen b.chosen a.routing b.routing problem.some sa sb e in
+    same_parts a.ratio b.ratio a.chosen b.chosen a.routing b.routing same.ratio same.chosen same.each
 
 -- ---- certified texts
 

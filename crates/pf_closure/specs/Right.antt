@@ -1,16 +1,13 @@
 -- Which answers have the right shape, and which texts are right answers.
-use Rattle.std.specs.Prelude.{◌≡◌, ℕ, ◌^◌, List, length, All}
-use Rattle.pf_model.specs.Answer.{IsFractionShape, IsWithinSize}
+use Rattle.std.specs.Prelude.{◌≡◌, ℕ, List, length}
+use Rattle.pf_ratio.specs.Answer.{IsAnswerShape}
 use Rattle.pf_closure.specs.Problem.{ClosureProblem, IsLeastRatio}
 use Rattle.pf_closure.specs.Certificate.{RatioAnswer, CertifiesRatio}
 use Rattle.pf_closure.specs.Text.{ratio_text}
 
 -- a fraction in lowest terms, a truth value for each item, and for each need a number of a size below 2 ^ 104
-pub record IsRatioShape (p : ClosureProblem) (answer : RatioAnswer) : Type 0 where
-  pub ratio : IsFractionShape answer.ratio
-  pub chosen : length answer.chosen ≡ length p.costs
-  pub routing_full : length answer.routing ≡ length p.needs
-  pub routing : All (IsWithinSize (2 ^ 104)) answer.routing
+abbrev pub IsRatioShape : ClosureProblem → RatioAnswer → Type 0
+IsRatioShape p answer = IsAnswerShape (length p.costs) (length p.needs) answer.ratio answer.chosen answer.routing
 
 -- `closure`: the least ratio, with its greatest closure and numbers on the needs that certify both
 pub record IsRightRatio (p : ClosureProblem) (text : List ℕ) : Type 0 where

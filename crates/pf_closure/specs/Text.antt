@@ -4,7 +4,7 @@ use Rattle.std.specs.Option.{option_map}
 use Rattle.pf_text.specs.declared.RuleKind.{RuleKind}
 use Rattle.pf_text.specs.declared.RuleKind.TheVariants.{Repeated, Missing}
 use Rattle.pf_text.specs.Kinds.{FieldPattern, number, word, Form, Kind, broken_if}
-use Rattle.pf_text.specs.Spelling.{line, row_line, fraction_line, side_line}
+use Rattle.pf_ratio.specs.Answer.{answer_text}
 use Rattle.pf_closure.specs.Problem.{ClosureProblem}
 use Rattle.pf_closure.specs.Certificate.{RatioAnswer}
 
@@ -81,9 +81,4 @@ closure = record {
 
 -- the text of an answer: the ratio, the chosen items, and the numbers on the needs
 unfoldable pub ratio_text : RatioAnswer → List ℕ
-ratio_text answer =
-    line (codes "o" ∷ codes "closure" ∷ [])
-    ++ fraction_line (codes "r") [] answer.ratio []
-    ++ side_line (codes "s") [] [] answer.chosen
-    ++ row_line (codes "f") [] answer.routing
-    ++ line (codes "end" ∷ [])
+ratio_text answer = answer_text (codes "closure") (codes "r") answer.ratio answer.chosen answer.routing

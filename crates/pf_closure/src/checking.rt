@@ -1,9 +1,9 @@
 // The test of a least ratio.
-ghost use Rattle.std.specs.Prelude.{◌≡◌, ◌↔◌, IsTrue, ℕ, ◌<◌, ◌≤◌, ◌≤ℤ◌, pos, length, not, true, IfOk};
+ghost use Rattle.std.specs.Prelude.{◌≡◌, ◌↔◌, IsTrue, ℕ, ◌<◌, ◌≤◌, ◌≤ℤ◌, pos, length, true, IfOk};
 ghost use Rattle.std.specs.Bool.{OnTrue};
-ghost use Rattle.pf_model.specs.Cut.{at_arc, has};
+ghost use Rattle.pf_model.specs.Cut.{at_arc};
 ghost use Rattle.pf_frame.specs.Scratch.{Serves, KeepsPlaces};
-ghost use Rattle.pf_closure.specs.Problem.{IsNonempty, IsLeastRatio};
+ghost use Rattle.pf_closure.specs.Problem.{IsLeastRatio};
 ghost use Rattle.pf_closure.specs.Certificate.{CertifiesRatio};
 ghost use Rattle.pf_closure.specs.Dropping.{AreRouted};
 ghost use Rattle.pf_closure.specs.Right.{IsCertifiedRatio};
@@ -14,6 +14,7 @@ use crate::ratio::Ratio;
 use crate::text::read_ratio;
 use pf_frame::{NoMemory, Scratch};
 use pf_lines::AnswerBad;
+use pf_ratio::{has_some, is_rest};
 use std::alloc::Global;
 
 // Whether each number is from 0 to 2^100.
@@ -41,31 +42,6 @@ fn are_nonneg(sums: &[i128], count: usize) -> bool
     true
 }
 
-// Whether each item is chosen exactly where it is not marked.
-fn is_rest(chosen: &[bool], marks: &[bool]) -> bool
-    requires { length chosen.now ≤ length marks.now }
-    ensures { IsTrue result ↔ ((i : ℕ) → i < length chosen.now → has chosen.now i ≡ not (has marks.now i)) }
-{
-    'items: for i in 0..chosen.len() {
-        if chosen[i] == marks[i] {
-            return false;
-        }
-    }
-    true
-}
-
-// Whether an item is chosen.
-pub fn has_some(chosen: &[bool]) -> bool
-    ensures { IsTrue result ↔ IsNonempty chosen.now }
-{
-    'items: for i in 0..chosen.len() {
-        if chosen[i] {
-            return true;
-        }
-    }
-    false
-}
-
 /// Whether the numbers on the needs certify the ratio and the chosen items, which are then the least ratio and its greatest closure.
 /// It takes no memory. The scratch is for as many nodes as there are items and as many arcs as there are needs.
 pub fn check_ratio(items: &Items, answer: &Ratio, scratch: &mut Scratch) -> bool
@@ -78,14 +54,14 @@ pub fn check_ratio(items: &Items, answer: &Ratio, scratch: &mut Scratch) -> bool
 {
     // They tell the limits of the items, and that the ratio is a fraction.
     let _ = items.items();
-    let _ = answer.ratio().q();
-    let routing = answer.routing().get();
-    let chosen = answer.chosen().get();
+    let _ = answer.ratio.q();
+    let routing = answer.routing.get();
+    let chosen = answer.chosen.get();
     if !is_routing(routing) {
         return false;
     }
     let sums = scratch.sums.as_mut_slice();
-    write_slacks(items, answer.ratio(), routing, sums);
+    write_slacks(items, &answer.ratio, routing, sums);
     if !are_nonneg(sums, chosen.len()) {
         return false;
     }

@@ -6,10 +6,11 @@ ghost use Rattle.pf_model.specs.Flow.{flow_value};
 ghost use Rattle.pf_model.specs.Digraph.{IsDigraph};
 ghost use Rattle.pf_frame.specs.Numbers.{IsBounded};
 ghost use Rattle.pf_closure.specs.Certificate.{IsDropped, IsRouting};
-ghost use Rattle.pf_closure.specs.Dropping.{AreRouted, HasSlacks, IsEndDropped, IsRound, IsStart, HasStrict, IsForced};
+ghost use Rattle.pf_closure.specs.Dropping.{HasSlacks, IsStart, need_link};
 
 use crate::items::Items;
 use pf_rat::Rat;
+use pf_ratio::{Link, Links, mark_linked};
 
 // The cost of an item less the ratio `p/q` times its weight, in units of `1/q`.
 fn reduced_cost(cost: i64, weight: i64, at: &Rat) -> i128
@@ -84,53 +85,55 @@ fn mark_strict(sums: &[i128], count: usize, marks: &mut [bool])
     }
 }
 
-// Marks an end of a need whose other end drops it, and tells whether there was one.
-fn drop_end(marks: &mut [bool], needing: usize, needed: usize, amount: i128) -> bool
-    requires needing { needing < length marks.old }
-    requires needed { needed < length marks.old }
-    ensures { IsEndDropped needing needed amount marks.old marks.new result }
-{
-    if marks[needed] && !marks[needing] {
-        marks[needing] = true;
-        return true;
-    }
-    if 0 < amount && marks[needing] && !marks[needed] {
-        marks[needed] = true;
-        return true;
-    }
-    false
+// The needs, along which items are dropped.
+#[derive(Drop)]
+struct Needs<'a> {
+    items: &'a Items,
+    routing: &'a [i128],
 }
 
-// One pass over the needs.
-fn drop_round(items: &Items, routing: &[i128], marks: &mut [bool]) -> bool
-    requires routing { length routing.now ≡ length items.now.needs }
-    requires routed { AreRouted routing.now (length routing.now) }
-    requires places { length items.now.costs ≤ length marks.old }
-    ensures { IsRound items.now routing.now marks.old marks.new (length items.now.needs) result }
+impl<'a> Links for Needs<'a> {
+    ghost count = { λ s. length s.items.now.needs };
+
+    ghost link = { λ s k. need_link s.items.now s.routing.now k };
+
+    ghost is_ready = { λ s. IsRouting s.items.now s.routing.now };
+
+    fn count(&self) -> usize {
+        self.items.needs() as usize
+    }
+
+    fn link(&self, k: usize) -> Link {
+        link_of(self.items, self.routing, k)
+    }
+}
+
+// A need as a link.
+fn link_of(items: &Items, routing: &[i128], k: usize) -> Link
+    requires routing { IsRouting items.now routing.now }
+    requires there { k < length items.now.needs }
+    ensures { result ≡ need_link items.now routing.now k }
 {
-    // It tells that needs name items.
-    let _ = items.items();
     let needs = items.pairs();
-    let mut changed = false;
-    'needs: for k in 0..needs.len() {
-        let dropped = drop_end(marks, needs[k].0 as usize, needs[k].1 as usize, routing[k]);
-        changed = changed || dropped;
+    Link {
+        first: needs[k].0 as usize,
+        second: needs[k].1 as usize,
+        to_first: true,
+        to_second: 0 < routing[k],
     }
-    changed
 }
 
-/// Marks the dropped items, pass after pass until a pass marks none. `sums` holds what each item may still be brought.
+/// Marks the dropped items. `sums` holds what each item may still be brought.
 pub fn mark_dropped(items: &Items, routing: &[i128], sums: &[i128], marks: &mut [bool])
-    requires routing { length routing.now ≡ length items.now.needs }
-    requires routed { AreRouted routing.now (length routing.now) }
+    requires routing { IsRouting items.now routing.now }
     requires sums { length items.now.costs ≤ length sums.now }
     requires places { length items.now.costs ≤ length marks.old }
     ensures full { length marks.new ≡ length marks.old }
     ensures dropped { (x : Fraction) → HasSlacks items.now x routing.now sums.now → IsDropped items.now x routing.now marks.new }
 {
+    // It tells that needs name items.
+    let _ = items.items();
     mark_strict(sums, items.costs().len(), marks);
-    let mut changed = true;
-    'rounds: while changed {
-        changed = drop_round(items, routing, marks);
-    }
+    let needs = Needs { items, routing };
+    mark_linked(&needs, marks);
 }

@@ -9,7 +9,6 @@ ghost use Rattle.pf_closure.specs.Reduction.{closure_net, items_of, routing_of};
 ghost use Rattle.pf_closure.specs.Newton.{IsNewton, IsWholeSide, IsRest};
 ghost use Rattle.pf_closure.specs.Right.{IsRatioShape};
 
-use crate::checking::has_some;
 use crate::dropping::{mark_dropped, write_slacks};
 use crate::items::Items;
 use crate::network::closure_net;
@@ -18,6 +17,7 @@ use crate::sums::ratio_of;
 use pf_curve::Finder;
 use pf_frame::{NoMemory, Numbers, Side};
 use pf_rat::Rat;
+use pf_ratio::has_some;
 use std::alloc::Global;
 
 // Whether the side holds an item.
@@ -104,7 +104,11 @@ fn answer_of(alloc: Global, items: &Items, ratio: Rat, flow: &[i128]) -> Result<
     let mut sums = vec![in alloc; 0i128; count]?;
     let mut chosen = vec![in alloc; false; count]?;
     choose(items, &ratio, &routing, &mut sums, &mut chosen);
-    Ok(Ratio::new(ratio, Side::from_vec(chosen), Numbers::from_vec(routing)))
+    Ok(Ratio {
+        ratio,
+        chosen: Side::from_vec(chosen),
+        routing: Numbers::from_vec(routing),
+    })
 }
 
 // The answer, in working room: two sides, indexed by nodes, of which the first holds all nodes but the sink, and a flow, indexed by

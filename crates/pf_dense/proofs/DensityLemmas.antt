@@ -13,12 +13,12 @@ use Rattle.pf_model.specs.Answer.{IsWithinSize}
 use Rattle.pf_model.specs.Network.{Network, IsInInterval, IsMonotone, network_at}
 use Rattle.pf_model.proofs.Integers.{add_mul, mul_comm, mul_most, mul_most_inverse, mul_nonneg}
 use Rattle.pf_model.proofs.Affine.{proper_at}
+use Rattle.pf_ratio.specs.Answer.{IsAnswerShape}
 use Rattle.pf_graph.specs.WeightedGraph.{WeightedGraph, IsWeightedGraph, cost_of, lies_in, total}
 use Rattle.pf_graph.specs.Limits.{IsSmall, IsWithinLimits}
 use Rattle.pf_dense.specs.Densest.{weight_inside, cost_within, HasPositiveCosts, HasDensity, IsVertexSet, IsDensest}
 use Rattle.pf_dense.specs.Certificate.{AreCharges, CertifiesDense}
 use Rattle.pf_dense.specs.Reduction.{total_weight, dense_net, side_of, outside_of}
-use Rattle.pf_dense.specs.Answer.{DenseAnswer, IsDenseShape}
 use Rattle.pf_dense.specs.Newton.{IsStep, IsNewton}
 use Rattle.pf_dense.specs.Carrying.{IsCarried}
 use Rattle.pf_dense.proofs.OneAnswer.{costs_some}
@@ -245,18 +245,16 @@ written r h a b q w e f l m al ah bl bh =
     same ∙ here
 
 -- the answer of its parts
-pub made_certificate : (g : WeightedGraph) (x : Fraction) (set got : List Bool) (charges found : List ℤ) (made : DenseAnswer) →
-    made ≡ record { density = x; chosen = got; charges = found } → got ≡ set → found ≡ charges → CertifiesDense g x set charges →
-    CertifiesDense g made.density made.chosen made.charges
-made_certificate g x set got charges found made e a b c = rw (e, a, b) c
+pub made_certificate : (g : WeightedGraph) (x : Fraction) (set got : List Bool) (charges found : List ℤ) → got ≡ set → found ≡ charges → CertifiesDense g x set charges →
+    CertifiesDense g x got found
+made_certificate g x set got charges found a b c = rw (a, b) c
 
-pub made_shape : (g : WeightedGraph) (x : Fraction) (set got : List Bool) (charges found : List ℤ) (made : DenseAnswer) →
-    made ≡ record { density = x; chosen = got; charges = found } → got ≡ set → found ≡ charges → IsBoundedFraction x → IsLowest x → CertifiesDense g x set charges →
-    All (IsWithinSize (2 ^ 104)) charges → IsDenseShape g made
-made_shape g x set got charges found made e a b bounds lowest c each = rw (e, a, b) (record {
-  density = record { bounds = bounds; lowest = lowest };
+pub made_shape : (g : WeightedGraph) (x : Fraction) (set got : List Bool) (charges found : List ℤ) → got ≡ set → found ≡ charges → IsBoundedFraction x → IsLowest x →
+    CertifiesDense g x set charges → All (IsWithinSize (2 ^ 104)) charges → IsAnswerShape g.nodes (length g.ends) x got found
+made_shape g x set got charges found a b bounds lowest c each = rw (a, b) (record {
+  ratio = record { bounds = bounds; lowest = lowest };
   chosen = c.full;
-  charges = c.charges_are.full;
+  full = c.charges_are.full;
   each = each;
 })
 

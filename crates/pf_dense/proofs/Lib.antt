@@ -11,6 +11,5 @@ pub mod WeighingLemmas
 pub mod ArcLemmas
 pub mod DensityLemmas
 pub mod NetBuilt
-pub mod TextLemmas
 pub mod SameAnswers
 pub mod Examples

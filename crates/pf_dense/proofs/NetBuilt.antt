@@ -190,7 +190,6 @@ net_built g limits =
     let edges = limits.edges in
     let all = length_arcs g limits.graph in
     record {
-      rising = refl;
       monotone = net_monotone g limits;
       limits = record {
         nodes = omega (arith, nodes);

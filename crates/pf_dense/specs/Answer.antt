@@ -1,18 +1,13 @@
 -- A densest set as an answer, and its shape, whatever it says.
-use Rattle.std.specs.Prelude.{◌≡◌, ◌^◌, ℤ, Bool, List, length, All}
-use Rattle.pf_model.specs.Fraction.{Fraction}
-use Rattle.pf_model.specs.Answer.{IsWithinSize, IsFractionShape}
+use Rattle.std.specs.Prelude.{length}
+use Rattle.pf_ratio.specs.Answer.{IsAnswerShape}
 use Rattle.pf_graph.specs.WeightedGraph.{WeightedGraph}
+use Rattle.pf_dense.specs.declared.dense.Dense.{Dense}
 
 -- a density, a set of vertices, and beside each edge its charge to its first end
-pub record DenseAnswer : Type 0 where
-  pub density : Fraction
-  pub chosen : List Bool
-  pub charges : List ℤ
+abbrev pub DenseAnswer : Type 0
+DenseAnswer = Dense
 
 -- a fraction in lowest terms, one truth value per vertex, and one charge per edge, each of a size below 2^104
-pub record IsDenseShape (g : WeightedGraph) (answer : DenseAnswer) : Type 0 where
-  pub density : IsFractionShape answer.density
-  pub chosen : length answer.chosen ≡ g.nodes
-  pub charges : length answer.charges ≡ length g.ends
-  pub each : All (IsWithinSize (2 ^ 104)) answer.charges
+abbrev pub IsDenseShape : WeightedGraph → DenseAnswer → Type 0
+IsDenseShape g answer = IsAnswerShape g.nodes (length g.ends) answer.density answer.chosen answer.charges

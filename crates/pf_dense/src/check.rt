@@ -1,9 +1,8 @@
 // The test of a densest set.
-ghost use Rattle.std.specs.Prelude.{◌≡◌, ◌↔◌, IsTrue, IfOk, ℕ, ◌<◌, ◌≤◌, length, not, true};
+ghost use Rattle.std.specs.Prelude.{◌≡◌, ◌↔◌, IsTrue, IfOk, length, true};
 ghost use Rattle.std.specs.Bool.{OnTrue};
-ghost use Rattle.pf_model.specs.Cut.{has};
 ghost use Rattle.pf_frame.specs.Scratch.{Serves, KeepsPlaces};
-ghost use Rattle.pf_dense.specs.Densest.{IsNonempty, IsDensest};
+ghost use Rattle.pf_dense.specs.Densest.{IsDensest};
 ghost use Rattle.pf_dense.specs.Certificate.{CertifiesDense};
 ghost use Rattle.pf_dense.specs.Right.{IsCertifiedDense};
 
@@ -14,32 +13,8 @@ use crate::text::read_dense;
 use pf_frame::{NoMemory, Scratch};
 use pf_graph::Graph;
 use pf_lines::AnswerBad;
+use pf_ratio::{has_some, is_rest};
 use std::alloc::Global;
-
-// Whether each vertex is chosen exactly where it is not marked.
-fn is_rest(chosen: &[bool], marks: &[bool]) -> bool
-    requires { length chosen.now ≤ length marks.now }
-    ensures { IsTrue result ↔ ((v : ℕ) → v < length chosen.now → has chosen.now v ≡ not (has marks.now v)) }
-{
-    'vertices: for v in 0..chosen.len() {
-        if chosen[v] == marks[v] {
-            return false;
-        }
-    }
-    true
-}
-
-// Whether a vertex is chosen.
-fn has_some(chosen: &[bool]) -> bool
-    ensures { IsTrue result ↔ IsNonempty chosen.now }
-{
-    'vertices: for v in 0..chosen.len() {
-        if chosen[v] {
-            return true;
-        }
-    }
-    false
-}
 
 /// Whether the answer's charges certify its density and its set as the best ones: no vertex is charged more than `2p` times its cost,
 /// and the set is that of the vertices that the charges do not drop. It takes no memory.
@@ -53,10 +28,10 @@ pub fn check_dense(graph: &Graph, answer: &Dense, scratch: &mut Scratch) -> bool
 {
     // They tell the limits of the graph, and that the density is a fraction.
     let _ = graph.vertices();
-    let at = answer.density();
+    let at = &answer.density;
     let _ = at.q();
-    let charges = answer.charges().get();
-    let chosen = answer.chosen().get();
+    let charges = answer.charges.get();
+    let chosen = answer.chosen.get();
     if !are_charges(graph, at, charges) {
         return false;
     }

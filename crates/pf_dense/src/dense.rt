@@ -1,57 +1,15 @@
 // A density with its set.
-ghost use Rattle.std.specs.Prelude.{◌≡◌};
-
 use pf_frame::{Numbers, Side};
 use pf_rat::Rat;
-use std::marker::Model;
 
 /// A density `p/q`, the vertices of a set, and for each edge what it charges its first end, in units of `1/(2q)`; its second end is
-/// charged the rest of `2q` times its weight.
+/// charged the rest of `2q` times its weight. Any parts will do.
 #[derive(Drop)]
 pub struct Dense {
-    density: Rat,
-    chosen: Side,
-    charges: Numbers,
-}
-
-impl Model for Dense {
-    ghost use Rattle.pf_dense.specs.Answer.{DenseAnswer};
-
-    ghost Value = { DenseAnswer };
-
-    ghost view = { λ d. record { density = d.density; chosen = d.chosen; charges = d.charges } };
-}
-
-impl Dense {
-    /// The answer of these parts. Any will do.
-    pub fn new(density: Rat, chosen: Side, charges: Numbers) -> Dense
-        ensures { result ≡ record { density = density; chosen = chosen; charges = charges } }
-    {
-        Dense {
-            density,
-            chosen,
-            charges,
-        }
-    }
-
     /// The density.
-    pub fn density(&self) -> &Rat
-        ensures { result.now ≡ self.now.density }
-    {
-        &self.density
-    }
-
+    pub density: Rat,
     /// The set, indexed by vertices.
-    pub fn chosen(&self) -> &Side
-        ensures { result.now ≡ self.now.chosen }
-    {
-        &self.chosen
-    }
-
+    pub chosen: Side,
     /// The charges to first ends, indexed by edges, in units of `1/(2q)` where the density is `p/q`.
-    pub fn charges(&self) -> &Numbers
-        ensures { result.now ≡ self.now.charges }
-    {
-        &self.charges
-    }
+    pub charges: Numbers,
 }

@@ -1,11 +1,12 @@
 // Which vertices the charges drop.
-ghost use Rattle.std.specs.Prelude.{◌≡◌, ◌<◌, ◌≤◌, length, ℕ, pos};
+ghost use Rattle.std.specs.Prelude.{◌≡◌, ◌<◌, ◌≤◌, length};
 ghost use Rattle.pf_dense.specs.Certificate.{AreCharges};
-ghost use Rattle.pf_dense.specs.Dropping.{HasCharged, IsEndDropped, IsRound, IsStart, IsDroppedBy};
+ghost use Rattle.pf_dense.specs.Dropping.{HasCharged, IsStart, edge_link, IsDroppedBy};
 
 use crate::charging::{allowance, whole_charge};
 use pf_graph::Graph;
 use pf_rat::Rat;
+use pf_ratio::{Link, Links, mark_linked};
 
 // Marks the vertices that are charged less than they may be.
 fn mark_strict(graph: &Graph, at: &Rat, sums: &[i128], marks: &mut [bool])
@@ -20,46 +21,50 @@ fn mark_strict(graph: &Graph, at: &Rat, sums: &[i128], marks: &mut [bool])
     }
 }
 
-// Marks an end of an edge that the edge charges, where the other end is marked, and tells whether it did.
-fn drop_end(marks: &mut [bool], first: u32, second: u32, to_first: i128, to_second: i128) -> bool
-    requires first { first < length marks.old }
-    requires second { second < length marks.old }
-    ensures { IsEndDropped first second to_first to_second marks.old marks.new result }
-{
-    if marks[first as usize] {
-        if 0 < to_second && !marks[second as usize] {
-            marks[second as usize] = true;
-            return true;
-        }
-        return false;
-    }
-    if 0 < to_first && marks[second as usize] {
-        marks[first as usize] = true;
-        return true;
-    }
-    false
+// The edges, along which vertices are dropped.
+#[derive(Drop)]
+struct Edges<'a> {
+    graph: &'a Graph,
+    at: &'a Rat,
+    charges: &'a [i128],
 }
 
-// One pass over the edges.
-fn drop_round(graph: &Graph, at: &Rat, charges: &[i128], marks: &mut [bool]) -> bool
+impl<'a> Links for Edges<'a> {
+    ghost count = { λ s. length s.graph.now.ends };
+
+    ghost link = { λ s i. edge_link s.graph.now s.at.now s.charges.now i };
+
+    ghost is_ready = { λ s. AreCharges s.graph.now s.at.now s.charges.now };
+
+    fn count(&self) -> usize {
+        self.graph.edges() as usize
+    }
+
+    fn link(&self, i: usize) -> Link {
+        link_of(self.graph, self.at, self.charges, i)
+    }
+}
+
+// An edge as a link.
+fn link_of(graph: &Graph, at: &Rat, charges: &[i128], i: usize) -> Link
     requires charges { AreCharges graph.now at.now charges.now }
-    requires places { graph.now.nodes ≤ length marks.old }
-    ensures { IsRound graph.now at.now charges.now marks.old marks.new (length graph.now.ends) result }
+    requires there { i < length graph.now.ends }
+    ensures { result ≡ edge_link graph.now at.now charges.now i }
 {
     // It tells the limits of the graph.
     let _ = graph.vertices();
-    let mut changed = false;
-    'edges: for i in 0..graph.edges() {
-        let (first, second, weight) = graph.edge(i);
-        let charge = charges[i as usize];
-        let rest = whole_charge(weight, at) - charge;
-        let dropped = drop_end(marks, first, second, charge, rest);
-        changed = changed || dropped;
+    let (first, second, weight) = graph.edge(i as u32);
+    let charge = charges[i];
+    let rest = whole_charge(weight, at) - charge;
+    Link {
+        first: first as usize,
+        second: second as usize,
+        to_first: 0 < charge,
+        to_second: 0 < rest,
     }
-    changed
 }
 
-// Marks the dropped vertices, pass after pass over the edges until a pass marks none.
+// Marks the dropped vertices. `sums` holds what each is charged.
 pub fn mark_dropped(graph: &Graph, at: &Rat, charges: &[i128], sums: &[i128], marks: &mut [bool])
     requires charges { AreCharges graph.now at.now charges.now }
     requires sums { HasCharged graph.now at.now charges.now sums.now }
@@ -67,9 +72,9 @@ pub fn mark_dropped(graph: &Graph, at: &Rat, charges: &[i128], sums: &[i128], ma
     ensures full { length marks.new ≡ length marks.old }
     ensures dropped { IsDroppedBy graph.now at.now charges.now marks.new }
 {
+    // It tells that edges join vertices.
+    let _ = graph.vertices();
     mark_strict(graph, at, sums, marks);
-    let mut changed = true;
-    'rounds: while changed {
-        changed = drop_round(graph, at, charges, marks);
-    }
+    let edges = Edges { graph, at, charges };
+    mark_linked(&edges, marks);
 }

@@ -135,7 +135,6 @@ net_built p b =
     let low = gain_low p b in
     let high = gain_high p b in
     record {
-      rising = refl;
       monotone = record {
         source = omega arith;
         sink = omega arith;

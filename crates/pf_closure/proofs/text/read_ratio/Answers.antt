@@ -1,26 +1,21 @@
-use Rattle.std.proofs.Common.{◌≡◌, [], ◌++◌, ℕ, List, true, sym, ap, ◌∙◌}
-use Rattle.std.proofs.lemmas.List.{append-nil}
+use Rattle.std.proofs.Common.{◌≡◌, Err, ap, sym}
 use Rattle.std.proofs.lemmas.Result.{err_from_is_err_and}
 use Rattle.pf_lines.specs.declared.errors.AnswerBad.TheVariants.{NotText}
+use Rattle.pf_ratio.proofs.TextLemmas.{shape_at}
 use Rattle.pf_closure.specs.Text.{ratio_text}
 use Rattle.pf_closure.proofs.text.read_ratio.Goals as goal
 
 pub returns-in_err-answer-clause-refused : goal.returns-in_err-answer-clause-refused
+unfolding ratio_text
 returns-in_err-answer-clause-refused c = λ e answer shape there.
     let p = err_from_is_err_and c.from_residual.result c.from_residual.ensures.1 in
-    let excused = c.in_err-answer.ensures.found answer [] shape (c.new-rest.ensures ∙ there ∙ sym (append-nil (ratio_text answer))) in
     let same : c.in_err-answer.field-0.0 ≡ NotText = cc in
-    rw same at excused
+    c.in_err-answer.ensures.refused (ap Err same) answer.ratio answer.chosen answer.routing
+    (shape_at _ _ _ _ _ _ _ (sym c.items-count.ensures.value) (sym c.needs-width.ensures) shape) there
 
-pub returns-then-not-is_at_end-clause-refused : goal.returns-then-not-is_at_end-clause-refused
-returns-then-not-is_at_end-clause-refused c = λ e answer shape there.
-    let f = c.in_ok-answer.ensures.found answer [] shape (c.new-rest.ensures ∙ there ∙ sym (append-nil (ratio_text answer))) in
-    let none : c.is_at_end.result ≡ true = c.is_at_end.ensures.1 f.1 in
-    let some = c.if-not-is_at_end.true in
-    absurd cc
+pub returns-clause-shape : goal.returns-clause-shape
+returns-clause-shape c = shape_at _ _ _ _ _ _ _ c.items-count.ensures.value c.needs-width.ensures c.in_ok-answer.ensures.shape
 
 pub returns-clause-text : goal.returns-clause-text
-returns-clause-text c =
-    let none = c.is_at_end.ensures.0 c.if-not-is_at_end.false in
-    sym c.new-rest.ensures ∙ c.in_ok-answer.ensures.taken ∙ ap (λ (rest : List ℕ). ratio_text c.in_ok-answer.answer ++ rest) none
-    ∙ append-nil (ratio_text c.in_ok-answer.answer)
+unfolding ratio_text
+returns-clause-text c = c.in_ok-answer.ensures.text

@@ -10,7 +10,7 @@ returns-clause-shape c =
     let b : c.from_vec-2.result ≡ c.solve-density.new.charges =
     c.from_vec-2.ensures
     ∙ written_whole _ _ c.args.charges.len (c.solve-density.auto.charges ∙ c.deref_mut-2.ensures.len) (sym c.deref_mut-2.ensures.len ∙ ap length c.deref_mut-2.ensures.value) in
-    made_shape c.args.graph.now c.solve-density.result _ _ _ _ c.new.result c.new.ensures a b c.q.ensures.bounds c.q.ensures.lowest
+    made_shape c.args.graph.now c.solve-density.result _ _ _ _ a b c.q.ensures.bounds c.q.ensures.lowest
     c.solve-density.ensures.certificate c.solve-density.ensures.each
 
 pub returns-clause-certificate : goal.returns-clause-certificate
@@ -21,4 +21,4 @@ returns-clause-certificate c =
     let b : c.from_vec-2.result ≡ c.solve-density.new.charges =
     c.from_vec-2.ensures
     ∙ written_whole _ _ c.args.charges.len (c.solve-density.auto.charges ∙ c.deref_mut-2.ensures.len) (sym c.deref_mut-2.ensures.len ∙ ap length c.deref_mut-2.ensures.value) in
-    made_certificate c.args.graph.now c.solve-density.result _ _ _ _ c.new.result c.new.ensures a b c.solve-density.ensures.certificate
+    made_certificate c.args.graph.now c.solve-density.result _ _ _ _ a b c.solve-density.ensures.certificate

@@ -1,26 +1,21 @@
-use Rattle.std.proofs.Common.{◌≡◌, [], ◌++◌, ℕ, List, true, sym, ap, ◌∙◌}
-use Rattle.std.proofs.lemmas.List.{append-nil}
+use Rattle.std.proofs.Common.{◌≡◌, Err, ap, sym}
 use Rattle.std.proofs.lemmas.Result.{err_from_is_err_and}
 use Rattle.pf_lines.specs.declared.errors.AnswerBad.TheVariants.{NotText}
+use Rattle.pf_ratio.proofs.TextLemmas.{shape_at}
 use Rattle.pf_dense.specs.Text.{dense_text}
 use Rattle.pf_dense.proofs.text.read_dense.Goals as goal
 
 pub returns-in_err-answer-clause-refused : goal.returns-in_err-answer-clause-refused
+unfolding dense_text
 returns-in_err-answer-clause-refused c = λ e answer shape there.
     let p = err_from_is_err_and c.from_residual.result c.from_residual.ensures.1 in
-    let excused = c.in_err-answer.ensures.found answer [] shape (c.new-rest.ensures ∙ there ∙ sym (append-nil (dense_text answer))) in
     let same : c.in_err-answer.field-0.0 ≡ NotText = cc in
-    rw same at excused
+    c.in_err-answer.ensures.refused (ap Err same) answer.density answer.chosen answer.charges
+    (shape_at _ _ _ _ _ _ _ (sym c.vertices-count.ensures.value) (sym c.edges-width.ensures) shape) there
 
-pub returns-then-not-is_at_end-clause-refused : goal.returns-then-not-is_at_end-clause-refused
-returns-then-not-is_at_end-clause-refused c = λ e answer shape there.
-    let f = c.in_ok-answer.ensures.found answer [] shape (c.new-rest.ensures ∙ there ∙ sym (append-nil (dense_text answer))) in
-    let none : c.is_at_end.result ≡ true = c.is_at_end.ensures.1 f.1 in
-    let some = c.if-not-is_at_end.true in
-    absurd cc
+pub returns-clause-shape : goal.returns-clause-shape
+returns-clause-shape c = shape_at _ _ _ _ _ _ _ c.vertices-count.ensures.value c.edges-width.ensures c.in_ok-answer.ensures.shape
 
 pub returns-clause-text : goal.returns-clause-text
-returns-clause-text c =
-    let none = c.is_at_end.ensures.0 c.if-not-is_at_end.false in
-    sym c.new-rest.ensures ∙ c.in_ok-answer.ensures.taken ∙ ap (λ (rest : List ℕ). dense_text c.in_ok-answer.answer ++ rest) none
-    ∙ append-nil (dense_text c.in_ok-answer.answer)
+unfolding dense_text
+returns-clause-text c = c.in_ok-answer.ensures.text

@@ -1,0 +1,3 @@
+pub mod TextLemmas
+pub mod SameAnswers
+pub mod MarkingLemmas
