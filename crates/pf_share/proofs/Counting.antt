@@ -1,5 +1,5 @@
 -- Sums over the nodes of a side, and over the arcs that cross it.
-use Rattle.std.proofs.Common.{◌≡◌, ◌≢◌, ℕ, zero, suc, ◌<◌, ◌≤◌, List, [], ◌∷◌, length, get_or, refl, Bool, true, false, cond, ltb, arith, ap, sym, ◌∙◌, inl, inr}
+use Rattle.std.proofs.Common.{◌≡◌, ◌≢◌, ℕ, zero, suc, ◌<◌, ◌≤◌, List, [], length, get_or, refl, Bool, true, false, cond, ltb, arith, ap, sym, ◌∙◌, inl, inr}
 use Rattle.std.specs.Prelude.{ℤ, ◌+ℤ◌, ◌-ℤ◌, ◌*ℤ◌, ◌≤ℤ◌, ◌<ℤ◌, pos, map, ◌⊎◌}
 use Rattle.std.proofs.lemmas.Int.{ints, by_lt_z}
 use Rattle.std.proofs.lemmas.Bool.{cases_Bool, cases_eq, both_ways}
@@ -12,12 +12,9 @@ use Rattle.pf_model.proofs.Sums.{Passes, sum_where_most, sum_where_empty}
 use Rattle.pf_model.proofs.Balance.{excess, excess_below, more_excess, none_below_zero, across_is_excess}
 use Rattle.pf_model.proofs.Affine.{sum_where_scaled}
 use Rattle.pf_share.specs.Problem.{ShareProblem, IsCarried}
+use Rattle.pf_share.specs.Grouped.{tabled}
 
 -- a list of the first values of a function
-abbrev pub tabled : {X : Type 0} → (ℕ → X) → ℕ → List X
-tabled f zero = []
-tabled f (suc n) = f 0 ∷ tabled (λ v. f (suc v)) n
-
 pub length_tabled : {X : Type 0} (f : ℕ → X) (n : ℕ) → length (tabled f n) ≡ n
 length_tabled f zero = refl
 length_tabled f (suc n) = ap suc (length_tabled (λ v. f (suc v)) n)

@@ -5,6 +5,10 @@ pub mod OneFair
 pub mod NetArcs
 pub mod NetBuilt
 pub mod ReadOff
+pub mod FlowExists
+pub mod GroupNet
+pub mod GroupFlow
+pub mod GroupRoom
 pub mod Solved
 pub mod ShareLowest
 pub mod TextLaw

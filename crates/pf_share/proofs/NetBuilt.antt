@@ -107,7 +107,6 @@ net_built p b =
     let all = arcs_full p h in
     let sink = h.sink in
     record {
-      rising = refl;
       monotone = record {
         source = omega arith;
         sink = omega (arith, sink);

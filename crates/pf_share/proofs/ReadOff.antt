@@ -18,7 +18,8 @@ use Rattle.pf_model.proofs.Certificate.{at_most_reflexive, point_is_parameter, p
 use Rattle.pf_share.specs.Problem.{ShareProblem, IsShareProblem, IsBoundedSharing, no_share, tail_of, head_of}
 use Rattle.pf_share.specs.Certificate.{SharesAnswer, level_at, group_at, node_level, rank_of, rank_at, is_lower, entering, AreLevels, HasSource, CertifiesShares}
 use Rattle.pf_share.specs.Reduction.{share_net, join_at, group_of, IsReadOff}
-use Rattle.pf_share.proofs.Counting.{tabled, length_tabled, at_tabled, sum_times, sum_nothing, sum_equal}
+use Rattle.pf_share.specs.Grouped.{tabled}
+use Rattle.pf_share.proofs.Counting.{length_tabled, at_tabled, sum_times, sum_nothing, sum_equal}
 use Rattle.pf_share.proofs.NetArcs.{at_net, ends_many, flow_ends, source_ends, flow_capacity, source_capacity, node_out, node_in, cut_constant, cut_slope, outer_weight, outer_same, outer_low, outer_none}
 use Rattle.pf_share.proofs.NetBuilt.{net_built}
 
@@ -104,7 +105,7 @@ step_most : (b : Bool) (c s : ℤ) (n : ℕ) → pos 0 ≤ℤ c → c ≤ℤ pos
 step_most true c s n l h t = let e : suc n * 1000000000 ≡ n * 1000000000 + 1000000000 = grind arith in omega (arith, ints, h, t, e)
 step_most false c s n l h t = let e : suc n * 1000000000 ≡ n * 1000000000 + 1000000000 = grind arith in omega (arith, ints, h, l, t, e)
 
-sum_most : (test : ℕ × ℕ → Bool) (arcs : List (ℕ × ℕ)) (cs : List ℤ) → length cs ≡ length arcs → ((i : ℕ) → i < length arcs → pos 0 ≤ℤ at_arc cs i) →
+pub sum_most : (test : ℕ × ℕ → Bool) (arcs : List (ℕ × ℕ)) (cs : List ℤ) → length cs ≡ length arcs → ((i : ℕ) → i < length arcs → pos 0 ≤ℤ at_arc cs i) →
     ((i : ℕ) → i < length arcs → at_arc cs i ≤ℤ pos 1000000000) → sum_where test arcs cs ≤ℤ pos (length arcs * 1000000000)
 sum_most test [] cs full low high = omega (arith, ints)
 sum_most test (arc ∷ arcs) [] full low high = absurd (omega (arith, full))
@@ -116,7 +117,7 @@ step_least : (b : Bool) (c s : ℤ) → pos 0 ≤ℤ c → pos 0 ≤ℤ s → po
 step_least true c s l t = omega (arith, ints, l, t)
 step_least false c s l t = omega (arith, ints, l, t)
 
-sum_least : (test : ℕ × ℕ → Bool) (arcs : List (ℕ × ℕ)) (cs : List ℤ) → length cs ≡ length arcs → ((i : ℕ) → i < length arcs → pos 0 ≤ℤ at_arc cs i) →
+pub sum_least : (test : ℕ × ℕ → Bool) (arcs : List (ℕ × ℕ)) (cs : List ℤ) → length cs ≡ length arcs → ((i : ℕ) → i < length arcs → pos 0 ≤ℤ at_arc cs i) →
     pos 0 ≤ℤ sum_where test arcs cs
 sum_least test [] cs full low = omega (arith, ints)
 sum_least test (arc ∷ arcs) [] full low = absurd (omega (arith, full))
@@ -155,19 +156,19 @@ whole_last q p e = omega (arith, ints, e)
 abbrev all_but : ShareProblem → List Bool
 all_but p = tabled (λ v. not (v == p.sink)) (suc p.nodes)
 
-abbrev alone : ShareProblem → List Bool
+abbrev pub alone : ShareProblem → List Bool
 alone p = tabled (λ v. v == p.nodes) (suc p.nodes)
 
 in_all_but : (p : ShareProblem) (v : ℕ) → v < suc p.nodes → has (all_but p) v ≡ not (v == p.sink)
 in_all_but p v low = at_tabled (λ u. not (u == p.sink)) false (suc p.nodes) v low
 
-in_alone : (p : ShareProblem) (v : ℕ) → v < suc p.nodes → has (alone p) v ≡ (v == p.nodes)
+pub in_alone : (p : ShareProblem) (v : ℕ) → v < suc p.nodes → has (alone p) v ≡ (v == p.nodes)
 in_alone p v low = at_tabled (λ u. u == p.nodes) false (suc p.nodes) v low
 
-off_by : (n v : ℕ) → n ≢ v → (n == v) ≡ false
+pub off_by : (n v : ℕ) → n ≢ v → (n == v) ≡ false
 off_by n v h = grind (arith, nat_tests)
 
-on_by : (n : ℕ) → (n == n) ≡ true
+pub on_by : (n : ℕ) → (n == n) ≡ true
 on_by n = grind (arith, nat_tests)
 
 all_but_cut : (p : ShareProblem) (x : Fraction) → IsShareProblem p → IsCut (at_net p x) (all_but p)
@@ -182,7 +183,7 @@ all_but_cut p x h = record {
       in_all_but p p.sink (omega (arith, sink)) ∙ ap not (on_by p.sink);
 }
 
-alone_cut : (p : ShareProblem) (x : Fraction) → IsShareProblem p → IsCut (at_net p x) (alone p)
+pub alone_cut : (p : ShareProblem) (x : Fraction) → IsShareProblem p → IsCut (at_net p x) (alone p)
 alone_cut p x h = record {
   full = length_tabled (λ v. v == p.nodes) (suc p.nodes);
   with_source = in_alone p p.nodes (omega arith) ∙ on_by p.nodes;

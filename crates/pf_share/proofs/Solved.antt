@@ -9,21 +9,21 @@ use Rattle.std.proofs.lemmas.List.Elements.{All-get_or}
 use Rattle.std.proofs.Math.Nat.{eq-one_of_dvd-one}
 use Rattle.pf_model.specs.declared.AffineArc.{AffineArc}
 use Rattle.pf_model.specs.Fraction.{Fraction, IsLowest, lowest}
-use Rattle.pf_model.specs.Answer.{Curve, IsFractionShape, IsWithinSize, IsFlowShape, IsCurveShape}
+use Rattle.pf_model.specs.Answer.{IsFractionShape, IsWithinSize}
 use Rattle.pf_model.specs.Limits.{capacity_bound}
 use Rattle.pf_model.specs.Cut.{at_arc}
 use Rattle.pf_model.specs.Network.{Network}
-use Rattle.pf_model.specs.Curve.{IsCurve, CertifiesCurve, point_at, flow_at}
+use Rattle.pf_model.specs.Curve.{IsCurve, point_at}
 use Rattle.pf_model.proofs.Lowest.{same_fraction, lowest_stays}
 use Rattle.pf_model.proofs.Certificate.{point_is_parameter}
 use Rattle.pf_net.specs.Limits.{rising}
-use Rattle.pf_share.specs.Problem.{ShareProblem, IsShareProblem, IsBoundedSharing, no_share, tail_of, head_of}
+use Rattle.pf_share.specs.Problem.{ShareProblem, IsBoundedSharing, no_share, tail_of, head_of}
 use Rattle.pf_share.specs.Certificate.{SharesAnswer, CertifiesShares, IsBestShares}
 use Rattle.pf_share.specs.Right.{IsSharesShape}
-use Rattle.pf_share.specs.Reduction.{flow_arc, source_arc, flow_arcs, source_arcs, highest, share_net, IsJoin, join_at, AreJoins, IsFirst, AreLevelsOf, group_of, AreGroupsOf, IsFlowOf, IsReadOff, AreFull}
-use Rattle.pf_share.proofs.NetArcs.{arcs_full}
+use Rattle.pf_share.specs.Reduction.{flow_arc, source_arc, flow_arcs, source_arcs, highest, share_net, IsJoin, join_at, AreJoins, IsFirst, AreLevelsOf, group_of, AreGroupsOf, AreWide}
+use Rattle.pf_share.specs.Grouped.{answer_of, HasFlow, IsStill}
 use Rattle.pf_share.proofs.Soundness.{certified_fair}
-use Rattle.pf_share.proofs.ReadOff.{read_off_certifies}
+use Rattle.pf_share.proofs.FlowExists.{flow_exists}
 
 -- the arcs, one after the other
 
@@ -142,56 +142,46 @@ group_more joins first cuts old new v g x a e is step = record {
   each = item_more old new x (pos 0) v (λ u. pos (group_of first cuts (join_at joins u))) a.full step a.each (is ∙ ap pos e);
 }
 
-pub number_more : (p : ShareProblem) (flows : List (List ℤ)) (joins : List ℕ) (old new : List ℤ) (i : ℕ) (x : ℤ) → IsFlowOf p flows joins old i →
-    x ≡ at_arc (flow_at flows (join_at joins (tail_of p i))) i → new ≡ old ++ x ∷ [] → IsFlowOf p flows joins new (i + 1)
-number_more p flows joins old new i x a e step = record {
-  full = more_full old new x i a.full step;
-  each = item_more old new x (pos 0) i (λ k. at_arc (flow_at flows (join_at joins (tail_of p k))) k) a.full step a.each e;
-}
-
-pub flows_full : (p : ShareProblem) (net : Network) (curve : Curve) → IsShareProblem p → net ≡ share_net p → IsCurveShape net curve → AreFull (length p.ends) curve.flows
-flows_full p net curve h same s =
-    let P : Network → Type 0 = λ n. All (IsFlowShape n) curve.flows in
-    let all = subst P same s.flows in
-    let many = arcs_full p h in
-    record {
-      each = λ j low. let full = (All-get_or (IsFlowShape (share_net p)) curve.flows j [] low all).full in omega (arith, full, many);
-      sized = λ j low i less.
-          let shape = All-get_or (IsFlowShape (share_net p)) curve.flows j [] low all in
-          let full = shape.full in
-          All-get_or (IsWithinSize capacity_bound) (flow_at curve.flows j) i (pos 0) (omega (arith, full, many, less)) shape.each;
-    }
-
 -- the last point is a whole number
-last_unit : (p : ShareProblem) (curve : Curve) → IsCurve (share_net p) curve.points curve.cuts → IsCurveShape (share_net p) curve →
-    (point_at (share_net p) curve.points (length curve.cuts)).q ≡ pos 1
-last_unit p curve v s =
-    let many = s.count in
-    let x = point_at (share_net p) curve.points (length curve.cuts) in
-    let shape = All-get_or IsFractionShape curve.points (length curve.cuts) (share_net p).low (omega (arith, many)) s.points in
+last_unit : (p : ShareProblem) (points : List Fraction) (cuts : List (List Bool)) → IsCurve (share_net p) points cuts → All IsFractionShape points →
+    (point_at (share_net p) points (length cuts)).q ≡ pos 1
+last_unit p points cuts v s =
+    let many = v.division.count in
+    let x = point_at (share_net p) points (length cuts) in
+    let shape = All-get_or IsFractionShape points (length cuts) (share_net p).low (omega (arith, many)) s in
     ap (λ (y : Fraction). y.q)
-    (same_fraction x highest (point_is_parameter (share_net p) curve.points curve.cuts v.division (length curve.cuts) (omega arith)) (omega (arith, ints))
+    (same_fraction x highest (point_is_parameter (share_net p) points cuts v.division (length cuts) (omega arith)) (omega (arith, ints))
     shape.lowest (whole_lowest (pos 10000000000001)) v.division.high)
 
-read_off_shape : (p : ShareProblem) (curve : Curve) (a : SharesAnswer) → IsShareProblem p → IsCurveShape (share_net p) curve → IsReadOff p curve a → CertifiesShares p a →
-    IsSharesShape p a
-read_off_shape p curve a h s r c =
-    let many = s.count in
-    let flows_many = s.flow_count in
-    let count = r.count in
-    let full = flows_full p (share_net p) curve h refl s in
+-- levels and groups with no flow yet
+pub record IsSplit (p : ShareProblem) (a : SharesAnswer) : Type 0 where
+  pub shape : IsSharesShape p a
+  pub some : HasFlow p a.levels a.groups
+
+still_sized : (still : List ℤ) → IsStill still → All (IsWithinSize capacity_bound) still
+still_sized still s = λ i d low.
+    let e = get_or_default still i d (pos 0) low ∙ s.each i in
+    let P : ℤ → Type 0 = λ n. IsWithinSize capacity_bound n in
+    subst P (sym e) (record { low = omega (arith, ints); high = omega (arith, ints) })
+
+split_from : (p : ShareProblem) (points : List Fraction) (cuts : List (List Bool)) (levels : List Fraction) (groups still : List ℤ) (joins : List ℕ) (first : ℕ) →
+    IsBoundedSharing p → IsCurve (share_net p) points cuts → All IsFractionShape points → AreJoins cuts joins p.nodes → IsFirst joins first →
+    AreLevelsOf p points levels first (length levels) → first + length levels ≡ length cuts → AreGroupsOf joins first (length cuts) groups p.nodes →
+    IsStill still → length still ≡ length p.ends → IsSplit p (answer_of levels groups still)
+split_from p points cuts levels groups still joins first b v shapes j f l count g s full =
+    let some = flow_exists p points cuts levels groups joins first b v (last_unit p points cuts v shapes) j f l count g in
+    let c = some.certified in
+    let many = v.division.count in
     record {
-      levels = λ k d low.
-          subst IsFractionShape (sym (get_or_default a.levels k d no_share low ∙ r.levels.each k low))
-          (All-get_or IsFractionShape curve.points (r.first + k) (share_net p).low (omega (arith, count, many, low)) s.points);
-      groups = record { full = c.groups.full; low = c.groups.low; high = c.groups.high; sources = c.groups.sources };
-      flow_full = r.flow.full;
-      flow = λ i d low.
-          let wide = r.flow.full in
-          let there : i < length p.ends = omega (arith, low, wide) in
-          let within = (r.joins_are.each (tail_of p i) (h.tails i there)).within in
-          subst (IsWithinSize capacity_bound) (sym (get_or_default a.flow i d (pos 0) low ∙ r.flow.each i there))
-          (full.sized (join_at r.joins (tail_of p i)) (omega (arith, within, many, flows_many)) i there);
+      shape = record {
+        levels = λ k d low.
+            subst IsFractionShape (sym (get_or_default levels k d no_share low ∙ l.each k low))
+            (All-get_or IsFractionShape points (first + k) (share_net p).low (omega (arith, count, many, low)) shapes);
+        groups = record { full = c.groups.full; low = c.groups.low; high = c.groups.high; sources = c.groups.sources };
+        flow_full = full;
+        flow = still_sized still s;
+      };
+      some = some;
     }
 
 pub record IsSolved (p : ShareProblem) (a : SharesAnswer) : Type 0 where
@@ -199,34 +189,14 @@ pub record IsSolved (p : ShareProblem) (a : SharesAnswer) : Type 0 where
   pub certificate : CertifiesShares p a
   pub shape : IsSharesShape p a
 
-pub solved : (p : ShareProblem) (net : Network) (curve : Curve) (a : SharesAnswer) (joins : List ℕ) (first count : ℕ) → IsBoundedSharing p → net ≡ share_net p →
-    IsCurve net curve.points curve.cuts → CertifiesCurve net curve.points curve.cuts curve.flows → IsCurveShape net curve → first + count ≡ length curve.cuts →
-    AreJoins curve.cuts joins p.nodes → IsFirst joins first → AreLevelsOf p curve.points a.levels first count → AreGroupsOf joins first (length curve.cuts) a.groups p.nodes →
-    IsFlowOf p curve.flows joins a.flow (length p.ends) → IsSolved p a
-solved p net curve a joins first count b same v c s many j f levels groups flow =
-    let P : Network → Type 0 = λ n. IsCurve n curve.points curve.cuts in
-    let Q : Network → Type 0 = λ n. CertifiesCurve n curve.points curve.cuts curve.flows in
-    let R : Network → Type 0 = λ n. IsCurveShape n curve in
-    let L : ℕ → Type 0 = λ n. AreLevelsOf p curve.points a.levels first n in
-    let full = levels.full in
-    let r : IsReadOff p curve a = record {
-      joins = joins;
-      first = first;
-      joins_are = j;
-      first_is = f;
-      levels = subst L (sym full) levels;
-      count = omega (arith, full, many);
-      groups = groups;
-      flow = flow;
-    } in
-    let shape = subst R same s in
-    let curve_is = subst P same v in
-    let certificate = read_off_certifies p curve a b curve_is (subst Q same c) (last_unit p curve curve_is shape) r in
-    record {
-      best = certified_fair p a b.problem certificate;
-      certificate = certificate;
-      shape = read_off_shape p curve a b.problem shape r certificate;
-    }
+pub solved : (p : ShareProblem) (split a : SharesAnswer) (flow : List ℤ) → IsBoundedSharing p → IsSharesShape p split → CertifiesShares p (answer_of split.levels split.groups flow) →
+    All (IsWithinSize capacity_bound) flow → a ≡ answer_of split.levels split.groups flow → IsSolved p a
+solved p split a flow b shape c sized is =
+    subst (IsSolved p) (sym is) (record {
+      best = certified_fair p (answer_of split.levels split.groups flow) b.problem c;
+      certificate = c;
+      shape = record { levels = shape.levels; groups = shape.groups; flow_full = c.flow.full; flow = sized };
+    })
 
 -- from the parts that the code has
 pub first_least : (joins : List ℕ) (first : ℕ) → IsFirst joins first → (v : ℕ) → v < length joins → first ≤ join_at joins v
@@ -245,41 +215,57 @@ first_small joins first f = elim f [
   | inr one_is ↦ (let e = one_is.0 in omega (arith, e))
 ]
 
-pub joins_within : (p : ShareProblem) (curve : Curve) (points : List Fraction) (joins slice : List ℕ) → AreJoins curve.cuts joins p.nodes → slice ≡ joins →
-    points ≡ curve.points → length curve.points ≡ length curve.cuts + 1 → (v : ℕ) → v < length slice → join_at slice v ≤ length points - 1
-joins_within p curve points joins slice j e same count =
-    let P : List ℕ → Type 0 = λ l. (v : ℕ) → v < length l → join_at l v ≤ length points - 1 in
+pub joins_within : (p : ShareProblem) (cuts : List (List Bool)) (points shown : List Fraction) (joins slice : List ℕ) → AreJoins cuts joins p.nodes → slice ≡ joins →
+    shown ≡ points → length points ≡ length cuts + 1 → (v : ℕ) → v < length slice → join_at slice v ≤ length shown - 1
+joins_within p cuts points shown joins slice j e same count =
+    let P : List ℕ → Type 0 = λ l. (v : ℕ) → v < length l → join_at l v ≤ length shown - 1 in
     subst P (sym e) (λ v low.
     let full = j.full in
     let within = (j.each v (omega (arith, low, full))).within in
     let many = ap length same in
     omega (arith, within, many, count))
 
+-- each cut has a truth value for the node
+pub cuts_wide : (p : ShareProblem) (net : Network) (points : List Fraction) (cuts : List (List Bool)) → net ≡ share_net p → IsCurve net points cuts → (v : ℕ) → v < p.nodes →
+    AreWide v cuts
+cuts_wide p net points cuts same c v low =
+    let P : Network → Type 0 = λ n. IsCurve n points cuts in
+    let curve = subst P same c in
+    record { each = λ i less. let full = (curve.smallest i less).least.cut.full in omega (arith, full, low) }
+
 pub joins_least : (joins slice slice' : List ℕ) (first : ℕ) → slice ≡ joins → slice' ≡ joins → IsFirst slice first → (v : ℕ) → v < length slice' → first ≤ join_at slice' v
 joins_least joins slice slice' first e e' f =
     let P : List ℕ → Type 0 = λ l. IsFirst l first in
     first_least slice' first (subst P (e ∙ sym e') f)
 
-abbrev pub answer_of : List Fraction → List ℤ → List ℤ → SharesAnswer
-answer_of levels groups flow = record { levels = levels; groups = groups; flow = flow }
+-- the points behind the first are the levels
+pub levels_count : (net : Network) (points shown : List Fraction) (cuts : List (List Bool)) (joins : List ℕ) (first : ℕ) → IsCurve net points cuts → shown ≡ points → IsFirst joins first →
+    first + ((length shown - 1) - first) ≡ length cuts
+levels_count net points shown cuts joins first v same f =
+    let some = v.division.some in
+    let count = v.division.count in
+    let many = ap length same in
+    let small = first_small joins first f in
+    omega (arith, some, count, many, small)
 
-pub finished : (p : ShareProblem) (net : Network) (curve : Curve) (a : SharesAnswer) (levels points : List Fraction) (groups flow : List ℤ) (joins s s' s'' : List ℕ) (first : ℕ) →
-    IsBoundedSharing p → net ≡ share_net p → IsCurve net curve.points curve.cuts → CertifiesCurve net curve.points curve.cuts curve.flows → IsCurveShape net curve →
-    points ≡ curve.points → AreJoins curve.cuts joins p.nodes → s ≡ joins → s' ≡ joins → s'' ≡ joins → IsFirst s first →
-    AreLevelsOf p curve.points levels first ((length points - 1) - first) → AreGroupsOf s' first (length points - 1) groups (length s') →
-    IsFlowOf p curve.flows s'' flow (length p.ends) → a ≡ answer_of levels groups flow → IsSolved p a
-finished p net curve a levels points groups flow joins s s' s'' first b same v c shape shown j e e' e'' f l g n is =
-    let some = shape.some in
-    let count = shape.count in
-    let many = ap length shown in
+pub split_is : (p : ShareProblem) (net : Network) (points : List Fraction) (cuts : List (List Bool)) (a : SharesAnswer) (levels shown : List Fraction) (groups still : List ℤ)
+    (joins s s' : List ℕ) (first : ℕ) → IsBoundedSharing p → net ≡ share_net p → IsCurve net points cuts → All IsFractionShape points → shown ≡ points →
+    AreJoins cuts joins p.nodes → s ≡ joins → s' ≡ joins → IsFirst s first → AreLevelsOf p points levels first ((length shown - 1) - first) →
+    AreGroupsOf s' first (length shown - 1) groups (length s') → IsStill still → length still ≡ length p.ends → a ≡ answer_of levels groups still → IsSplit p a
+split_is p net points cuts a levels shown groups still joins s s' first b same v shapes seen j e e' f l g quiet full is =
+    let some = v.division.some in
+    let count = v.division.count in
+    let many = ap length seen in
     let small = first_small s first f in
-    let cuts : length points - 1 ≡ length curve.cuts = omega (arith, many, count) in
-    let total : first + ((length points - 1) - first) ≡ length curve.cuts = omega (arith, cuts, small, some) in
+    let wide = l.full in
+    let all : length shown - 1 ≡ length cuts = omega (arith, many, count) in
+    let total : first + length levels ≡ length cuts = omega (arith, all, small, some, wide) in
+    let C : Network → Type 0 = λ n. IsCurve n points cuts in
     let F : List ℕ → Type 0 = λ k. IsFirst k first in
-    let G : List ℕ → Type 0 = λ k. AreGroupsOf k first (length points - 1) groups (length k) in
+    let L : ℕ → Type 0 = λ n. AreLevelsOf p points levels first n in
+    let G : List ℕ → Type 0 = λ k. AreGroupsOf k first (length shown - 1) groups (length k) in
     let H : ℕ → Type 0 = λ k. AreGroupsOf joins first k groups (length joins) in
-    let K : ℕ → Type 0 = λ k. AreGroupsOf joins first (length curve.cuts) groups k in
-    let N : List ℕ → Type 0 = λ k. IsFlowOf p curve.flows k flow (length p.ends) in
-    subst (IsSolved p) (sym is)
-    (solved p net curve (answer_of levels groups flow) joins first ((length points - 1) - first) b same v c shape total j (subst F e f) l
-    (subst K j.full (subst H cuts (subst G e' g))) (subst N e'' n))
+    let K : ℕ → Type 0 = λ k. AreGroupsOf joins first (length cuts) groups k in
+    subst (IsSplit p) (sym is)
+    (split_from p points cuts levels groups still joins first b (subst C same v) shapes j (subst F e f) (subst L (sym wide) l) total
+    (subst K j.full (subst H all (subst G e' g))) quiet full)

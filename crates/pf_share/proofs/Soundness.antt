@@ -14,7 +14,8 @@ use Rattle.pf_model.proofs.Sums.{sum_where_most, sum_where_split, sum_where_empt
 use Rattle.pf_model.proofs.Duality.{leaves_parts, enters_parts}
 use Rattle.pf_share.specs.Problem.{ShareProblem, IsShareProblem, IsCarried, IsFeasible, IsInUnit, no_share, tail_of, head_of, share_at, HasLess}
 use Rattle.pf_share.specs.Certificate.{SharesAnswer, level_at, group_at, node_level, rank_of, rank_at, is_lower, CertifiesShares, share_of, shares_of, IsBestShares}
-use Rattle.pf_share.proofs.Counting.{tabled, length_tabled, at_tabled, sum_times, sum_nothing, sum_side, side_less, side_times, find_less, side_across}
+use Rattle.pf_share.specs.Grouped.{tabled}
+use Rattle.pf_share.proofs.Counting.{length_tabled, at_tabled, sum_times, sum_nothing, sum_side, side_less, side_times, find_less, side_across}
 
 -- a unit in which all levels are whole
 
@@ -72,10 +73,10 @@ at_factored f (arc ∷ arcs) (x ∷ xs) (suc i) full low = at_factored f arcs xs
 
 -- groups and their order
 
-rank_zero : (count g : ℕ) → g ≡ 0 → rank_of count g ≡ suc count
+pub rank_zero : (count g : ℕ) → g ≡ 0 → rank_of count g ≡ suc count
 rank_zero count g e = rw e refl
 
-rank_group : (count g : ℕ) → g ≢ 0 → rank_of count g ≡ g
+pub rank_group : (count g : ℕ) → g ≢ 0 → rank_of count g ≡ g
 rank_group count g h = let e : eqb g 0 ≡ false = grind (arith, nat_tests) in rw e refl
 
 pub same_rank : (count g k : ℕ) → g ≤ count → k ≤ count → rank_of count g ≡ rank_of count k → g ≡ k
@@ -90,7 +91,7 @@ same_rank count g k low low' e = elim (cases_eq g 0) [
   ]
 ]
 
-abs_of : (g : ℤ) (n : ℕ) → pos 0 ≤ℤ g → g ≤ℤ pos n → nat_abs g ≤ n
+pub abs_of : (g : ℤ) (n : ℕ) → pos 0 ≤ℤ g → g ≤ℤ pos n → nat_abs g ≤ n
 abs_of (pos g) n h l = omega (arith, ints, l)
 abs_of (negsuc g) n h l = absurd (omega (arith, ints, h))
 
@@ -99,10 +100,10 @@ abs_some (pos g) h = λ e. absurd (omega (arith, ints, h, e))
 abs_some (negsuc g) h = absurd (omega (arith, ints, h))
 
 -- tests of ranks
-lower_told : (a b : ℕ) → nat_lt a b ≡ true → a < b
+pub lower_told : (a b : ℕ) → nat_lt a b ≡ true → a < b
 lower_told a b h = grind (arith, nat_tests)
 
-lower_not : (a b : ℕ) → not (nat_lt a b) ≡ true → b ≤ a
+pub lower_not : (a b : ℕ) → not (nat_lt a b) ≡ true → b ≤ a
 lower_not a b h = grind (arith, nat_tests)
 
 within_told : (a b : ℕ) → nat_le a b ≡ true → a ≤ b
@@ -117,7 +118,7 @@ within_is a b h = grind (arith, nat_tests)
 above_is : (a b : ℕ) → b < a → nat_le a b ≡ false
 above_is a b h = grind (arith, nat_tests)
 
-node_told : (n v : ℕ) → (n == v) ≡ true → n ≡ v
+pub node_told : (n v : ℕ) → (n == v) ≡ true → n ≡ v
 node_told n v h = grind (arith, nat_tests)
 
 -- shares of levels

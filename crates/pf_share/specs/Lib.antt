@@ -7,5 +7,6 @@ pub mod Right
 pub mod Taken
 pub mod Reduction
 pub mod Tests
+pub mod Grouped
 pub mod Laws
 pub mod Worked

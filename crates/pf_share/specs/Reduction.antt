@@ -4,8 +4,7 @@ use Rattle.std.specs.Prelude.{◌≡◌, ◌≢◌, ℕ, suc, ◌+◌, ◌-◌, 
 use Rattle.pf_model.specs.declared.AffineArc.{AffineArc}
 use Rattle.pf_model.specs.declared.Sense.TheVariants.{Rising}
 use Rattle.pf_model.specs.Fraction.{Fraction}
-use Rattle.pf_model.specs.Answer.{Curve, IsWithinSize}
-use Rattle.pf_model.specs.Limits.{capacity_bound}
+use Rattle.pf_model.specs.Answer.{Curve}
 use Rattle.pf_model.specs.Cut.{has, at_arc}
 use Rattle.pf_model.specs.Network.{Network}
 use Rattle.pf_model.specs.Curve.{point_at, cut_at, flow_at}
@@ -100,10 +99,6 @@ pub record IsReadOff (p : ShareProblem) (curve : Curve) (a : SharesAnswer) : Typ
   pub groups : AreGroupsOf joins first (length curve.cuts) a.groups p.nodes
   pub flow : IsFlowOf p curve.flows joins a.flow (length p.ends)
 
--- each cut has a truth value for the node, and each flow a number for each arc
+-- each cut has a truth value for the node
 pub record AreWide (v : ℕ) (cuts : List (List Bool)) : Type 0 where
   pub each : (i : ℕ) → i < length cuts → v < length (cut_at cuts i)
-
-pub record AreFull (arcs : ℕ) (flows : List (List ℤ)) : Type 0 where
-  pub each : (j : ℕ) → j < length flows → arcs ≤ length (flow_at flows j)
-  pub sized : (j : ℕ) → j < length flows → (i : ℕ) → i < arcs → IsWithinSize capacity_bound (at_arc (flow_at flows j) i)

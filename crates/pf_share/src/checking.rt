@@ -68,7 +68,7 @@ fn is_below_group(g: usize, h: usize) -> bool
 }
 
 // Whether the group of the node `u` is lower than that of the node `v`.
-fn is_lower(sharing: &Sharing, answer: &Shares, u: usize, v: usize) -> bool
+pub(crate) fn is_lower(sharing: &Sharing, answer: &Shares, u: usize, v: usize) -> bool
     requires shape { IsSharesShape sharing.now answer.now }
     requires first { u < sharing.now.nodes }
     requires second { v < sharing.now.nodes }
@@ -92,7 +92,7 @@ fn times(k: i128, number: u32) -> i128
 }
 
 // The capacity of an arc, in units of `1/q` of the level of a node.
-fn whole(sharing: &Sharing, answer: &Shares, i: usize, v: usize) -> i128
+pub(crate) fn whole(sharing: &Sharing, answer: &Shares, i: usize, v: usize) -> i128
     requires shape { IsSharesShape sharing.now answer.now }
     requires arc { i < length sharing.now.ends }
     requires node { v < sharing.now.nodes }
@@ -229,7 +229,7 @@ fn raise(sums: &mut [i128], v: usize, amount: i128)
 }
 
 // Writes the share of each node into the first places, with its sign turned.
-fn write_own(sharing: &Sharing, answer: &Shares, sums: &mut [i128])
+pub(crate) fn write_own(sharing: &Sharing, answer: &Shares, sums: &mut [i128])
     requires shape { IsSharesShape sharing.now answer.now }
     requires places { sharing.now.nodes ≤ length sums.old }
     ensures full { length sums.new ≡ length sums.old }
@@ -242,7 +242,7 @@ fn write_own(sharing: &Sharing, answer: &Shares, sums: &mut [i128])
 }
 
 // Adds what leaves each node and takes away what enters it.
-fn add_arcs(sharing: &Sharing, answer: &Shares, sums: &mut [i128])
+pub(crate) fn add_arcs(sharing: &Sharing, answer: &Shares, sums: &mut [i128])
     requires shape { IsSharesShape sharing.now answer.now }
     requires places { sharing.now.nodes ≤ length sums.old }
     requires own { AreOwn sharing.now answer.now sharing.now.nodes sums.old }

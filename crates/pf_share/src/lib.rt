@@ -6,6 +6,7 @@ mod answers;
 mod certified;
 mod checking;
 mod gathering;
+mod grouped;
 pub mod laws;
 mod network;
 mod reading;

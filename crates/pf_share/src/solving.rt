@@ -1,21 +1,20 @@
 // The fair shares of a network, read off the whole least-cut function of the parametric one.
 ghost use Rattle.std.specs.Prelude.{◌≡◌, ℕ, suc, ◌+◌, ◌<◌, ◌≤◌, IfOk, length};
-ghost use Rattle.pf_model.specs.Curve.{flow_at};
-ghost use Rattle.pf_model.specs.Cut.{at_arc};
-ghost use Rattle.pf_share.specs.Problem.{tail_of};
 ghost use Rattle.pf_share.specs.Certificate.{CertifiesShares, IsBestShares};
 ghost use Rattle.pf_share.specs.Right.{IsSharesShape};
-ghost use Rattle.pf_share.specs.Reduction.{IsJoin, AreJoins, IsFirst, AreLevelsOf, group_of, AreGroupsOf, join_at, IsFlowOf, AreWide, AreFull};
+ghost use Rattle.pf_share.specs.Grouped.{IsStill};
+ghost use Rattle.pf_share.specs.Reduction.{IsJoin, AreJoins, IsFirst, AreLevelsOf, group_of, AreGroupsOf, join_at, AreWide};
 
+use crate::grouped::group_flow;
 use crate::network::share_net;
 use crate::shares::Shares;
 use crate::sharing::Sharing;
-use pf_curve::{Curve, Points, curve_of};
+use pf_curve::{CutFunction, Points, cuts_of};
 use pf_frame::{NoMemory, Numbers};
 use std::alloc::Global;
 
 // The number of the first cut that holds the node, or the number of cuts.
-fn join_of(curve: &Curve, v: usize) -> usize
+fn join_of(curve: &CutFunction, v: usize) -> usize
     requires { AreWide v curve.now.cuts }
     ensures { IsJoin curve.now.cuts v result }
 {
@@ -29,7 +28,7 @@ fn join_of(curve: &Curve, v: usize) -> usize
 }
 
 // The same of each node.
-fn joins_of(alloc: Global, sharing: &Sharing, curve: &Curve) -> Result<Vec<usize>, NoMemory>
+fn joins_of(alloc: Global, sharing: &Sharing, curve: &CutFunction) -> Result<Vec<usize>, NoMemory>
     requires { (v : ℕ) → v < sharing.now.nodes → AreWide v curve.now.cuts }
     ensures { IfOk result (λ joins. AreJoins curve.now.cuts joins.items sharing.now.nodes) }
 {
@@ -57,7 +56,7 @@ fn first_of(joins: &[usize]) -> usize
 fn levels_of(
     alloc: Global,
     sharing: &Sharing,
-    curve: &Curve,
+    curve: &CutFunction,
     first: usize,
     count: usize,
 ) -> Result<Points, NoMemory>
@@ -99,45 +98,21 @@ fn groups_of(alloc: Global, joins: &[usize], first: usize, cuts: usize) -> Resul
     Ok(groups)
 }
 
-// The number on an arc: that of the flow at the point where its tail joins.
-fn number_of(sharing: &Sharing, curve: &Curve, joins: &[usize], i: usize) -> i128
-    requires arc { i < length sharing.now.ends }
-    requires joins { AreJoins curve.now.cuts joins.now sharing.now.nodes }
-    requires full { AreFull (length sharing.now.ends) curve.now.flows }
-    ensures { result ≡ at_arc (flow_at curve.now.flows (join_at joins.now (tail_of sharing.now i))) i }
+// A number for each arc, all of them 0.
+fn still_of(alloc: Global, sharing: &Sharing) -> Result<Numbers, NoMemory>
+    ensures still { IfOk result IsStill }
+    ensures full { IfOk result (λ flow. length flow ≡ length sharing.now.ends) }
 {
-    // It tells how many flows there are.
-    let _ = curve.points();
-    let join = joins[sharing.tail(i) as usize];
-    let number = &curve.flow(join)[i];
-    *number
-}
-
-// The number on each arc.
-fn flow_of(
-    alloc: Global,
-    sharing: &Sharing,
-    curve: &Curve,
-    joins: &[usize],
-) -> Result<Numbers, NoMemory>
-    requires joins { AreJoins curve.now.cuts joins.now sharing.now.nodes }
-    requires full { AreFull (length sharing.now.ends) curve.now.flows }
-    ensures { IfOk result (λ flow. IsFlowOf sharing.now curve.now.flows joins.now flow (length sharing.now.ends)) }
-{
-    let count = sharing.arcs() as usize;
-    let mut flow = Vec::with_capacity(alloc, count)?;
-    'arcs: for i in 0..count {
-        flow.push(number_of(sharing, curve, joins, i))?;
-    }
-    Ok(Numbers::from_vec(flow))
+    let still = vec![in alloc; 0i128; sharing.arcs() as usize]?;
+    Ok(Numbers::from_vec(still))
 }
 
 impl Shares {
     /// The fair shares, with a flow that certifies them. `NoMemory` is the only other answer.
     ///
     /// A parametric network (Gallo, Grigoriadis and Tarjan 1989): the source feeds each node in proportion to its weight, and a node's
-    /// level is the breakpoint of the least-cut function at which it joins the cut. The number on an arc is that of the greatest flow
-    /// at the level of its tail, or at the high end where that has none.
+    /// level is the breakpoint of the least-cut function at which it joins the cut. The flows of the nodes of each level are then found all
+    /// at once.
     pub fn of(alloc: Global, sharing: &Sharing) -> Result<Shares, NoMemory>
         ensures best { IfOk result (IsBestShares sharing.now) }
         ensures certificate { IfOk result (CertifiesShares sharing.now) }
@@ -146,13 +121,15 @@ impl Shares {
         // It tells what holds of every such network.
         let _ = sharing.nodes();
         let net = share_net(alloc, sharing)?;
-        let curve = curve_of(alloc, &net)?;
+        let curve = cuts_of(alloc, &net)?;
         let cuts = curve.points().len() - 1;
         let joins = joins_of(alloc, sharing, &curve)?;
         let first = first_of(joins.as_slice());
         let levels = levels_of(alloc, sharing, &curve, first, cuts - first)?;
         let groups = groups_of(alloc, joins.as_slice(), first, cuts)?;
-        let flow = flow_of(alloc, sharing, &curve, joins.as_slice())?;
-        Ok(Shares::new(levels, groups, flow))
+        let still = still_of(alloc, sharing)?;
+        let split = Shares::new(levels, groups, still);
+        let flow = group_flow(alloc, sharing, &split)?;
+        Ok(split.with_flow(flow))
     }
 }

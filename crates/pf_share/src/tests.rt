@@ -49,6 +49,15 @@ fn shares_in_thirds_are_in_lowest_terms(rt: HostRuntime) -> Result<(), Fail> {
 }
 
 #[test]
+fn nothing_goes_back_to_a_lower_group(rt: HostRuntime) -> Result<(), Fail> {
+    let problem =
+        b"p share 5 5\nn 5 t\nw 1 1\nw 2 1\na 1 3 5\na 3 5 2\na 2 4 10\na 4 5 6\na 4 3 3\nend\n";
+    let text = b"o share\nk 2\nl 1 2 1\nl 2 6 1\nm 1 2 1 2 0\nx 1 2 1\nx 2 6 1\nf 2 2 6 6 0\nend\n";
+    assert!(rt; is_answered(rt.alloc(), problem, text)?);
+    Ok(())
+}
+
+#[test]
 fn no_source_has_no_level(rt: HostRuntime) -> Result<(), Fail> {
     let problem = b"p share 2 1\nn 2 t\na 1 2 3\nend\n";
     let text = b"o share\nk 0\nm 0 0\nf 0\nend\n";
