@@ -2,6 +2,7 @@ pub mod NaturalLemmas
 pub mod RequestLemmas
 pub mod LevelLemmas
 pub mod PointLemmas
+pub mod SweepLemmas
 pub mod TreesLemmas
 pub mod AnsweringLemmas
 pub mod RunningLemmas

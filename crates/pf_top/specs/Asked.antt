@@ -14,7 +14,7 @@ use Rattle.pf_text.specs.Numbers.{natural_of, billion}
 use Rattle.pf_text.specs.Kinds.{Accepted}
 use Rattle.pf_text.specs.Verdict.{verdict_text, IsRightVerdict}
 use Rattle.pf_text.specs.Words.{natural_within, fraction_of_numbers, parameter_of}
-use Rattle.pf_top.specs.Job.{at, trees, reinforce, layers, named, job_of, ProblemOf, TextCommand, answer, check, row_of, Command, reads, draws}
+use Rattle.pf_top.specs.Job.{at, sweep, trees, reinforce, layers, named, job_of, ProblemOf, TextCommand, answer, check, row_of, Command, reads, draws}
 use Rattle.pf_top.specs.declared.words.Name.{Name}
 use Rattle.pf_top.specs.declared.words.Name.TheVariants.{Curve, Closure, Densest, Strength, Select, Partition, Share}
 
@@ -44,6 +44,7 @@ abbrev pub first_words : List (List ℕ × (List ℕ → Option Command))
 first_words =
     (codes "at", λ second. option_map (λ x. reads (answer (at x))) (parameter_of second))
     ∷ (codes "check", λ second. option_map (λ name. reads (check (named name))) (beside names second))
+    ∷ (codes "sweep", λ second. option_map (λ k. reads (answer (sweep k))) (natural_within 1 100000 (natural_of second)))
     ∷ (codes "trees", λ second. option_map (λ k. reads (answer (trees k))) (natural_within 1 500 (natural_of second)))
     ∷ (codes "reinforce", λ second. option_map (λ x. reads (answer (reinforce x))) (level_of second))
     ∷ (codes "generate", λ second. option_map draws (natural_within 0 (2 ^ 64 - 1) (natural_of second)))

@@ -3,12 +3,14 @@ use Rattle.std.specs.Prelude.{ℕ, if◌then◌else◌, List, Option, Some, None
 use Rattle.pf_model.specs.Fraction.{Fraction}
 use Rattle.pf_model.specs.Network.{Network}
 use Rattle.pf_text.specs.declared.Refusal.{Refusal}
-use Rattle.pf_text.specs.declared.Refusal.TheVariants.{Outside}
+use Rattle.pf_text.specs.declared.Refusal.TheVariants.{Outside, TooFine}
 use Rattle.pf_text.specs.declared.TextBad.{TextBad}
 use Rattle.pf_text.specs.Lines.{Line}
 use Rattle.pf_text.specs.Kinds.{Accepted, problem_of_lines}
 use Rattle.pf_par.specs.Text.{par}
 use Rattle.pf_par.specs.Right.{is_outside, IsRightPoint, IsRightCurve, IsCertifiedCurve}
+use Rattle.pf_sweep.specs.Parameters.{is_too_fine}
+use Rattle.pf_sweep.specs.Text.{IsRightSweep}
 use Rattle.pf_closure.specs.Problem.{ClosureProblem}
 use Rattle.pf_closure.specs.Text.{closure}
 use Rattle.pf_closure.specs.Right.{IsRightRatio, IsCertifiedRatio}
@@ -47,6 +49,7 @@ pub record Job : Type 1 where
 -- the rows: commands with a parameter, those that a word alone asks for, and those of them that `check` knows
 pub data Row : Type 0 where
   at : Fraction → Row
+  sweep : ℕ → Row
   trees : ℕ → Row
   reinforce : Fraction → Row
   layers : Row
@@ -59,6 +62,13 @@ job_of (at x) = record {
   read = problem_of_lines par;
   refusal = λ net. if is_outside x net then Some Outside else None;
   IsRight = IsRightPoint x;
+  Certifies = λ net text. ⊥;
+}
+job_of (sweep k) = record {
+  Problem = Network;
+  read = problem_of_lines par;
+  refusal = λ net. if is_too_fine k net then Some TooFine else None;
+  IsRight = IsRightSweep k;
   Certifies = λ net text. ⊥;
 }
 job_of (trees k) = record {

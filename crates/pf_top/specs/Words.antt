@@ -6,9 +6,9 @@ use Rattle.std.specs.declared.alloc.Global.{Global}
 use Rattle.pf_model.specs.Fraction.{Fraction}
 use Rattle.pf_text.specs.Numbers.{natural_of, whole_of, billion}
 use Rattle.pf_text.specs.Words.{natural_within, integer_within, fraction_of_numbers}
-use Rattle.pf_top.specs.Job.{at, trees, reinforce, layers, named, TextCommand, answer, check, Command, reads, draws}
+use Rattle.pf_top.specs.Job.{at, sweep, trees, reinforce, layers, named, TextCommand, answer, check, Command, reads, draws}
 use Rattle.pf_top.specs.declared.words.TextRequest.{TextRequest}
-use Rattle.pf_top.specs.declared.words.TextRequest.TheVariants.{At, Trees, Reinforce, Layers, Answer, Check}
+use Rattle.pf_top.specs.declared.words.TextRequest.TheVariants.{At, Sweep, Trees, Reinforce, Layers, Answer, Check}
 use Rattle.pf_top.specs.declared.words.Request.{Request}
 use Rattle.pf_top.specs.declared.words.Request.TheVariants.{Text, Generate}
 
@@ -23,6 +23,7 @@ fraction_of_parts front back = fraction_of_numbers (integer_within (neg_ℤ (pos
 -- the command that a request stands for
 abbrev pub text_command_of : TextRequest → TextCommand
 text_command_of (At job) = answer (at job.parameter)
+text_command_of (Sweep k) = answer (sweep k)
 text_command_of (Trees k) = answer (trees k)
 text_command_of (Reinforce x) = answer (reinforce x)
 text_command_of Layers = answer layers

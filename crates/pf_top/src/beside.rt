@@ -2,7 +2,7 @@
 // weight and needs both ends. The greatest price at which something is bought is the greatest density, and what is bought
 // there is the greatest set of that density.
 use super::*;
-use pf_io::{MemSink, MemSource};
+use crate::trial::outcome;
 use std::alloc::Global;
 use std::test::Fail;
 
@@ -54,11 +54,7 @@ fn holds(text: &[u8], piece: &[u8]) -> bool {
 
 // Whether the answer of the command of this name to the text holds this piece.
 fn answer_holds(alloc: Global, name: &str, text: &[u8], piece: &[u8]) -> Result<bool, Fail> {
-    let words = [String::from_str(alloc, name)?];
-    let mut source = MemSource::new(alloc, text, 512, &[])?;
-    let mut out = MemSink::new(alloc, 512, 10, &[])?;
-    let mut err = MemSink::new(alloc, 64, 10, &[])?;
-    let status = run(alloc, &words, &mut source, &mut out, &mut err);
+    let (status, out, _) = outcome(alloc, name, text, &[], &[], &[])?;
     Ok(status == Status::Done && holds(out.taken(), piece))
 }
 

@@ -3,17 +3,18 @@ ghost use Rattle.std.specs.Prelude.{◌<◌, length};
 
 use super::*;
 use crate::texts::{
-    DEAR, DEAR_DENSEST, FIVE, FIVE_CERTIFICATE, LIGHT, LIGHT_AND_HEAVY, LIGHT_RATIO, NARROW,
-    NARROW_SHARES, PARTS, PARTS_SELECT, STEEP, STEEP_CURVE, THREE, TRIANGLE, TRIANGLE_PARTITION,
-    TRIANGLE_STRENGTH, TWO_PAIRS, TWO_PAIRS_STRENGTH,
+    DEAR, DEAR_DENSEST, FALLING, FALLING_CURVE, FIVE, FIVE_CERTIFICATE, LIGHT, LIGHT_AND_HEAVY,
+    LIGHT_RATIO, NARROW, NARROW_SHARES, PARTS, PARTS_SELECT, STEEP, STEEP_CURVE, THREE, TRIANGLE,
+    TRIANGLE_PARTITION, TRIANGLE_STRENGTH, TWO_PAIRS, TWO_PAIRS_STRENGTH,
 };
+use crate::trial::outcome;
 use pf_gen::net_text;
-use pf_io::{MemSink, MemSource};
 use std::alloc::{AllocError, Global};
 use std::test::Fail;
 
 // The name of a command, a problem, and a text that certifies its answer.
-const CERTIFIED: [(&str, &[u8], &[u8]); 9] = [
+const CERTIFIED: [(&str, &[u8], &[u8]); 10] = [
+    ("curve", FALLING, FALLING_CURVE),
     ("curve", STEEP, STEEP_CURVE),
     ("curve", FIVE, FIVE_CERTIFICATE),
     ("closure", LIGHT, LIGHT_RATIO),
@@ -187,16 +188,11 @@ fn is_verdict(
     status: Status,
     text: &[u8],
 ) -> Result<bool, Fail> {
-    let words = [
-        String::from_str(alloc, "check")?,
-        String::from_str(alloc, name)?,
-    ];
+    let mut words = String::from_str(alloc, "check ")?;
+    words.push_str(name)?;
     let mut whole = Vec::from_slice(alloc, problem)?;
     whole.extend_from_slice(answer)?;
-    let mut source = MemSource::new(alloc, whole.as_slice(), 512, &[])?;
-    let mut out = MemSink::new(alloc, 64, 10, &[])?;
-    let mut err = MemSink::new(alloc, 64, 10, &[])?;
-    let found = run(alloc, &words, &mut source, &mut out, &mut err);
+    let (found, out, err) = outcome(alloc, &words, &whole, &[], &[], &[])?;
     Ok(
         found == status
             && out.taken() == text
@@ -236,11 +232,7 @@ fn verdicts(rt: HostRuntime) -> Result<(), Fail> {
 fn the_curve_of_a_drawn_network_is_certified(rt: HostRuntime) -> Result<(), Fail> {
     let alloc = rt.alloc();
     let text = net_text(alloc, 7, 60, 400)?;
-    let words = [String::from_str(alloc, "curve")?];
-    let mut source = MemSource::new(alloc, text.as_slice(), 512, &[])?;
-    let mut out = MemSink::new(alloc, 1 << 20, 4096, &[])?;
-    let mut err = MemSink::new(alloc, 64, 10, &[])?;
-    let status = run(alloc, &words, &mut source, &mut out, &mut err);
+    let (status, out, _) = outcome(alloc, "curve", &text, &[], &[], &[])?;
     assert_eq!(rt; status, Status::Done);
     assert!(rt; out.taken().starts_with(b"o curve\nk 45\nb 0 0 1 46495\n"));
     assert!(rt; is_verdict(alloc, "curve", &text, out.taken(), Status::Done, YES)?);
@@ -291,28 +283,6 @@ fn no_changed_line_survives(rt: HostRuntime) -> Result<(), Fail> {
                 "line {line}"
             );
         }
-    }
-    Ok(())
-}
-
-// Sixteen bytes in pieces of ten take two writes and a flush.
-#[test]
-fn each_write_of_a_verdict_fails_in_turn(rt: HostRuntime) -> Result<(), Fail> {
-    let alloc = rt.alloc();
-    let words = [
-        String::from_str(alloc, "check")?,
-        String::from_str(alloc, "curve")?,
-    ];
-    let mut text = Vec::from_slice(alloc, STEEP)?;
-    text.extend_from_slice(STEEP_CURVE)?;
-    for failing in 1..=3 {
-        let mut source = MemSource::new(alloc, text.as_slice(), 512, &[])?;
-        let mut out = MemSink::new(alloc, 64, 10, &[failing])?;
-        let mut err = MemSink::new(alloc, 64, 10, &[])?;
-        let status = run(alloc, &words, &mut source, &mut out, &mut err);
-        assert_eq!(rt; status, Status::WriteFault);
-        let taken = (10 * (failing as usize - 1)).min(YES.len());
-        assert_eq!(rt; out.taken(), &YES[..taken]);
     }
     Ok(())
 }

@@ -11,4 +11,5 @@ pub mod reinforce;
 pub mod select;
 pub mod share;
 pub mod strength;
+pub mod sweep;
 pub mod trees;

@@ -12,6 +12,7 @@ mod job;
 mod messages;
 mod running;
 mod status;
+mod text_net;
 mod words;
 
 pub use messages::tell;
@@ -24,6 +25,10 @@ mod beside;
 #[cfg(test)]
 mod checks;
 #[cfg(test)]
+mod hostile;
+#[cfg(test)]
 mod tests;
 #[cfg(test)]
 mod texts;
+#[cfg(test)]
+mod trial;

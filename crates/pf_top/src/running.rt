@@ -65,6 +65,7 @@ fn run_request<O: Sink>(alloc: Global, request: &TextRequest, bytes: &[u8], out:
 {
     match request {
         TextRequest::At(job) => answer(job, alloc, bytes, out),
+        TextRequest::Sweep(job) => answer(job, alloc, bytes, out),
         TextRequest::Trees(job) => answer(job, alloc, bytes, out),
         TextRequest::Reinforce(job) => answer(job, alloc, bytes, out),
         TextRequest::Layers => answer(&Layers, alloc, bytes, out),

@@ -8,7 +8,17 @@ pub const THREE_CURVE: &[u8] =
 
 pub const THREE_AT_FOUR: &[u8] = b"o at\nb 4 1 4\ns 0 1 100\nf 4 4\nend\n";
 
-/// The same, and the first arc grows three times as fast.
+/// No arc, and ends whose denominators are far apart.
+pub const CLOSE: &[u8] = b"p par 2 0\ni 1 1000000 2 999999\nn 1 s\nn 2 t\nend\n";
+
+/// The same nodes, and the first arc falls with the parameter.
+pub const FALLING: &[u8] =
+    b"p par 3 2\ni 0 1 10 1\nd falling\nn 1 s\nn 3 t\na 1 2 10 -1\na 2 3 4 0\nend\n";
+
+pub const FALLING_CURVE: &[u8] =
+    b"o curve\nk 2\nb 0 0 1 4\ns 1 4 0 110\nb 1 6 1 4\ns 2 10 -1 100\nb 2 10 1 0\nf 0 4 4\nf 1 4 4\nf 2 0 0\nend\n";
+
+/// The first network, and its first arc grows three times as fast.
 pub const STEEP: &[u8] = b"p par 3 2\ni 0 1 10 1\nn 1 s\nn 3 t\na 1 2 0 3\na 2 3 4 0\nend\n";
 
 pub const STEEP_CURVE: &[u8] =

@@ -5,12 +5,13 @@ ghost use Rattle.std.specs.Option.{option_map, option_and_then, option_or};
 ghost use Rattle.pf_model.specs.Fraction.{IsBoundedFraction, lowest};
 ghost use Rattle.pf_text.specs.Numbers.{is_digit, natural_of, billion};
 ghost use Rattle.pf_text.specs.Words.{natural_within, parameter_of};
-ghost use Rattle.pf_top.specs.Job.{at, trees, reinforce, named, answer, check, reads, draws};
+ghost use Rattle.pf_top.specs.Job.{at, sweep, trees, reinforce, named, answer, check, reads, draws};
 ghost use Rattle.pf_top.specs.Asked.{beside, names, lone_words, level_of_parts, level_of, first_words, command_of};
 ghost use Rattle.pf_top.specs.Words.{word_bytes, command_of_request, fraction_of_parts};
 
 use crate::commands::at::At;
 use crate::commands::reinforce::Reinforce;
+use crate::commands::sweep::Sweep;
 use crate::commands::trees::Trees;
 use pf_lines::whole;
 use pf_rat::Rat;
@@ -39,6 +40,8 @@ pub enum Name {
 pub enum TextRequest {
     /// The answer at one parameter.
     At(At),
+    /// The least cuts at the ends of so many equal steps.
+    Sweep(Sweep),
     /// So many trees, or what forbids them.
     Trees(Trees),
     /// The least cost of the strength at one level, or what forbids it.
@@ -257,6 +260,16 @@ fn check_word(second: &[u8]) -> Option<Request>
     }
 }
 
+// What `sweep` asks for with this second word, if it is a number of steps.
+fn sweep_word(second: &[u8]) -> Option<Request>
+    ensures { option_map (λ k. reads (answer (sweep k))) (natural_within 1 100000 (natural_of second.now)) ≡ option_map command_of_request result }
+{
+    match natural(second, 1, 100000) {
+        Some(steps) => Some(Request::Text(TextRequest::Sweep(Sweep::new(steps as u32)))),
+        None => None,
+    }
+}
+
 // What `trees` asks for with this second word, if it is a number of trees.
 fn trees_word(second: &[u8]) -> Option<Request>
     ensures { option_map (λ k. reads (answer (trees k))) (natural_within 1 500 (natural_of second.now)) ≡ option_map command_of_request result }
@@ -296,6 +309,9 @@ fn two_words(first: &[u8], second: &[u8]) -> Option<Request>
     }
     if first == b"check".as_slice() {
         return check_word(second);
+    }
+    if first == b"sweep".as_slice() {
+        return sweep_word(second);
     }
     if first == b"trees".as_slice() {
         return trees_word(second);

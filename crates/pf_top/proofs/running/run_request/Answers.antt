@@ -3,6 +3,9 @@ use Rattle.pf_top.proofs.running.run_request.Goals as goal
 pub returns-in-At : goal.returns-in-At
 returns-in-At g c = rw c.in-At.is c.answer.ensures
 
+pub returns-in-Sweep : goal.returns-in-Sweep
+returns-in-Sweep g c = rw c.in-Sweep.is c.answer-in-Sweep.ensures
+
 pub returns-in-Trees : goal.returns-in-Trees
 returns-in-Trees g c = rw c.in-Trees.is c.answer-in-Trees.ensures
 
