@@ -1,16 +1,18 @@
 -- The smallest least cut at a parameter, and how long it is kept.
 use Rattle.std.proofs.Common.{◌≡◌, ◌≢◌, ℕ, zero, suc, ◌+◌, ◌<◌, ◌≤◌, List, [], ◌∷◌, length, get_or, take, Bool, true, false, cond, arith, ap, sym, ◌∙◌, refl, add-one}
-use Rattle.std.specs.Prelude.{ℤ}
+use Rattle.std.specs.Prelude.{ℤ, ◌≤ℤ◌}
 use Rattle.std.proofs.lemmas.Int.{ints}
 use Rattle.pf_model.specs.declared.Sense.TheVariants.{Rising}
-use Rattle.pf_model.specs.Fraction.{Fraction, IsEqual, IsLowest, IsBoundedFraction, lowest}
+use Rattle.pf_model.specs.Fraction.{Fraction, IsAtMost, IsEqual, IsLowest, IsBoundedFraction, lowest}
 use Rattle.pf_model.specs.Line.{AffineLine, IsBoundedLine, value_at}
-use Rattle.pf_model.specs.Cut.{IsCut, IsSmallestLeast, IsLeastValue, capacity, size}
+use Rattle.pf_model.specs.Cut.{IsCut, IsLeast, IsSmallestLeast, IsLeastValue, capacity, size}
 use Rattle.pf_model.specs.Flow.{IsGreatest, IsWithin, value}
 use Rattle.pf_model.specs.Digraph.{Digraph, network_of}
 use Rattle.pf_model.specs.Network.{Network, IsInInterval, IsNetworkCut, network_at, line_of}
 use Rattle.pf_model.specs.Answer.{Row, IsRowShape}
 use Rattle.pf_model.proofs.Affine.{capacity_of_line, nested, proper_at}
+use Rattle.pf_model.proofs.Certificate.{least_between}
+use Rattle.pf_model.proofs.Integers.{mul_most, mul_comm}
 use Rattle.pf_model.proofs.Duality.{least_from_meeting}
 use Rattle.pf_model.proofs.Exists.{reach_exists}
 use Rattle.pf_model.proofs.Search.{size-le-length}
@@ -74,6 +76,27 @@ kept_least net unit p flow side line count b inside best k told =
     sym told ∙ ap (λ l. value_at l x) k.line_is ∙ sym (capacity_of_line net x side) in
     record {
       least = least_from_meeting (network_at net x) flow side best.flow_is cut e;
+      smallest = λ other o. nested net k.from x side other b.monotone k.rising k.inside inside k.before k.smallest o;
+    }
+
+-- a kept cut whose line is the least value at a later parameter is the smallest least cut at all up to there
+pub kept_between : (net : Network) (unit p y : ℤ) (side : List Bool) (line : AffineLine) (count : ℕ) (least : ℤ) → IsBuilt net → IsInInterval net (of_units unit p) →
+    IsInInterval net (of_units unit y) → p ≤ℤ y → IsKept net (of_units unit p) side line count → IsLeastValue (network_at net (of_units unit y)) least → value_at line (of_units unit y) ≡ least →
+    IsSmallestLeast (network_at net (of_units unit p)) side
+kept_between net unit p y side line count least b inside far order k v told =
+    let x : Fraction = of_units unit p in
+    let high : Fraction = of_units unit y in
+    let c = k.smallest.least.cut in
+    let cut : IsCut (network_at net high) side = record { full = c.full; with_source = c.with_source; without_sink = c.without_sink } in
+    let e : least ≡ capacity (network_at net high) side = sym told ∙ ap (λ l. value_at l high) k.line_is ∙ sym (capacity_of_line net high side) in
+    let f = v.value_is in
+    let there : IsLeast (network_at net high) side = record { cut = cut; least = λ other o. let m = v.least.least other o in omega (arith, ints, e, f, m) } in
+    let g = mul_most unit p y (let u = inside.parameter in omega (arith, ints, u)) order in
+    let h = mul_comm unit p in
+    let i = mul_comm unit y in
+    let below : IsAtMost x high = omega (arith, ints, g, h, i) in
+    record {
+      least = least_between net k.from x high side k.inside.parameter inside.parameter far.parameter k.before below k.smallest.least there;
       smallest = λ other o. nested net k.from x side other b.monotone k.rising k.inside inside k.before k.smallest o;
     }
 

@@ -1,15 +1,17 @@
 -- Equal steps through an interval, and the rows at their ends.
-use Rattle.std.proofs.Common.{◌≡◌, ℕ, ◌+◌, ◌-◌, ◌<◌, ◌≤◌, ◌^◌, List, [], ◌∷◌, ◌++◌, length, get_or, arith, ap, sym, ◌∙◌, refl, below_more, subst, true}
+use Rattle.std.proofs.Common.{◌≡◌, ℕ, ◌+◌, ◌<◌, ◌≤◌, ◌^◌, List, [], ◌∷◌, ◌++◌, length, get_or, arith, ap, sym, ◌∙◌, refl, below_more, subst, true}
 use Rattle.std.specs.Prelude.{ℤ, ◌+ℤ◌, ◌-ℤ◌, ◌*ℤ◌, ◌≤ℤ◌, ◌<ℤ◌, pos, nat_abs}
 use Rattle.std.proofs.lemmas.Int.{ints}
 use Rattle.std.proofs.lemmas.List.{length_push, get_or_append_left}
 use Rattle.std.proofs.Math.Seq.{get_or-append_seam}
+use Rattle.pf_model.specs.Fraction.{lowest}
+use Rattle.pf_model.specs.Cut.{IsLeastValue}
 use Rattle.pf_model.specs.Network.{Network, IsMonotone, IsInInterval}
 use Rattle.pf_model.specs.Answer.{Row}
 use Rattle.pf_model.proofs.Integers.{add_mul, mul_assoc, mul_comm, mul_most, mul_nonneg, mul_most_inverse}
 use Rattle.pf_sweep.specs.Parameters.{of_units, most_unit, HasNearEnds, is_too_fine, unit_of, step_units, sweep_parameter}
-use Rattle.pf_sweep.specs.Swept.{Swept, IsAdvanced}
-use Rattle.pf_sweep.specs.Rows.{IsRightRow, AreFirstRows, AreRows, row_at}
+use Rattle.pf_sweep.specs.Swept.{Swept, IsAdvanced, network_of_sweep}
+use Rattle.pf_sweep.specs.Rows.{IsRightRow, IsUnderway, IsAhead, IsSeen, AreFirstRows, AreRows, row_at}
 use Rattle.pf_sweep.proofs.Units.{turned, some_product, start_near}
 
 -- a ((b c) k) in another order
@@ -122,47 +124,90 @@ near_of net k some l h ends fine =
 
 -- ---- rows are added one after the other
 
--- a sweep stands at the parameter before the one of the number j, and there are j rows
-pub record IsUnderway (net : Network) (k j : ℕ) (sweep : Swept) (rows : List Row) : Type 0 where
-  pub net_is : sweep.net ≡ net
-  pub unit_is : sweep.unit ≡ unit_of net k
-  pub at_is : sweep.at ≡ step_units net k (j - 1)
-  pub some : 1 ≤ j
-  pub most : j ≤ k + 1
-  pub held : AreFirstRows net k j rows
+pub steps_rise : (net : Network) (k i j : ℕ) → IsMonotone net → i ≤ j → step_units net k i ≤ℤ step_units net k j
+steps_rise net k i j m order =
+    let below = m.interval in
+    let d : ℤ = (net.high.p *ℤ net.low.q) -ℤ (net.low.p *ℤ net.high.q) in
+    let more = mul_most d (pos i) (pos j) (omega (arith, ints, below)) (omega (arith, ints, order)) in
+    omega (arith, ints, more)
 
-pub underway_begins : (net : Network) (k : ℕ) (sweep : Swept) (rows : List Row) → sweep.net ≡ net → sweep.unit ≡ unit_of net k → sweep.at ≡ step_units net k 0 → AreFirstRows net k 1 rows →
+pub stands_inside : (net : Network) (k j : ℕ) (s : Swept) (p : ℤ) → IsMonotone net → 1 ≤ k → s.net ≡ net → s.unit ≡ unit_of net k → j ≤ k → p ≡ step_units net k j → IsInInterval s.net (of_units s.unit p)
+stands_inside net k j s p m some net_is unit_is low e =
+    rw (net_is, unit_is, e) (step_inside net k j m (some_product net.low.q net.high.q (pos k) m.low m.high (omega (arith, ints, some))) low)
+
+pub underway_begins : (net : Network) (k : ℕ) (sweep : Swept) (rows : List Row) → IsMonotone net → sweep.net ≡ net → sweep.unit ≡ unit_of net k → sweep.at ≡ step_units net k 0 → AreFirstRows net k 1 rows →
     IsUnderway net k 1 sweep rows
-underway_begins net k sweep rows e f g r = record { net_is = e; unit_is = f; at_is = g; some = omega arith; most = omega arith; held = r }
+underway_begins net k sweep rows m e f g r =
+    let more = steps_rise net k 0 1 m (omega arith) in
+    record { net_is = e; unit_is = f; at_most = omega (arith, ints, g, more); some = omega arith; most = omega arith; held = r }
 
-pub underway_inside : (net : Network) (k j : ℕ) (sweep : Swept) (rows : List Row) (p : ℤ) → IsMonotone net → 1 ≤ k → IsUnderway net k j sweep rows → j ≤ k → p ≡ step_units net k j →
-    IsInInterval sweep.net (of_units sweep.unit p)
-underway_inside net k j sweep rows p m some w low e =
-    rw (w.net_is, w.unit_is, e) (step_inside net k j m (some_product net.low.q net.high.q (pos k) m.low m.high (omega (arith, ints, some))) low)
+pub ahead_begins : (net : Network) (k : ℕ) (sweep : Swept) → IsMonotone net → sweep.net ≡ net → sweep.unit ≡ unit_of net k → sweep.at ≡ step_units net k 0 → IsAhead net k 1 sweep
+ahead_begins net k sweep m e f g =
+    let more = steps_rise net k 0 1 m (omega arith) in
+    record { net_is = e; unit_is = f; at_most = omega (arith, ints, g, more) }
 
-pub underway_later : (net : Network) (k j : ℕ) (sweep : Swept) (rows : List Row) (p : ℤ) → IsMonotone net → IsUnderway net k j sweep rows → p ≡ step_units net k j → sweep.at ≤ℤ p
-underway_later net k j sweep rows p m w e =
-    let i : ℕ = j - 1 in
-    let some = w.some in
-    let next : i + 1 ≡ j = omega (arith, some) in
-    let more = step_later net k i m in
-    let same = ap (λ n. step_units net k n) next in
-    let at = w.at_is in
-    omega (arith, ints, more, same, at, e)
+pub ahead_later : (net : Network) (k j to : ℕ) (sweep : Swept) (y : ℤ) → IsMonotone net → IsAhead net k j sweep → j ≤ to → y ≡ step_units net k to → sweep.at ≤ℤ y
+ahead_later net k j to sweep y m w order e =
+    let more = steps_rise net k j to m order in
+    let at = w.at_most in
+    omega (arith, ints, more, at, e)
 
-pub underway_more : (net : Network) (k j : ℕ) (sweep after last : Swept) (rows rows' : List Row) (p : ℤ) (steps steps' : ℕ) → IsUnderway net k j sweep rows → j ≤ k → p ≡ step_units net k j →
+pub ahead_more : (net : Network) (k j to : ℕ) (sweep after : Swept) (y : ℤ) (steps steps' : ℕ) → IsMonotone net → IsAhead net k j sweep → y ≡ step_units net k to → IsAdvanced sweep after y steps steps' →
+    IsAhead net k (to + 1) after
+ahead_more net k j to sweep after y steps steps' m w e a =
+    let more = step_later net k to m in
+    let at = a.at_is in
+    record { net_is = a.net_is ∙ w.net_is; unit_is = a.unit_is ∙ w.unit_is; at_most = omega (arith, ints, more, at, e) }
+
+-- what the sweep ahead tells of every row up to its own
+pub seen_of : (net : Network) (k j to : ℕ) (s : Swept) (y least : ℤ) → IsMonotone net → 1 ≤ k → s.net ≡ net → s.unit ≡ unit_of net k → s.at ≡ y → y ≡ step_units net k to → j ≤ to → to ≤ k →
+    IsLeastValue (network_of_sweep s) least → IsSeen net k j y least
+seen_of net k j to s y least m some net_is unit_is at_is e order low v =
+    let more = steps_rise net k j to m order in
+    record {
+      inside = rw e (step_inside net k to m (some_product net.low.q net.high.q (pos k) m.low m.high (omega (arith, ints, some))) low);
+      later = omega (arith, ints, more, e);
+      value = rw (net_is, unit_is, at_is) at v;
+    }
+
+pub seen_earlier : (net : Network) (k i j : ℕ) (y least : ℤ) → IsMonotone net → j ≤ i → IsSeen net k i y least → IsSeen net k j y least
+seen_earlier net k i j y least m order s =
+    let more = steps_rise net k j i m order in
+    let later = s.later in
+    record { inside = s.inside; later = omega (arith, ints, more, later); value = s.value }
+
+pub underway_later : (net : Network) (k j : ℕ) (sweep : Swept) (rows : List Row) (p : ℤ) → IsUnderway net k j sweep rows → p ≡ step_units net k j → sweep.at ≤ℤ p
+underway_later net k j sweep rows p w e = let at = w.at_most in omega (arith, ints, at, e)
+
+pub underway_more : (net : Network) (k j : ℕ) (sweep after last : Swept) (rows rows' : List Row) (p : ℤ) (steps steps' : ℕ) → IsMonotone net → IsUnderway net k j sweep rows → j ≤ k → p ≡ step_units net k j →
     IsAdvanced sweep after p steps steps' → last ≡ after → AreFirstRows net k (j + 1) rows' → IsUnderway net k (j + 1) last rows'
-underway_more net k j sweep after last rows rows' p steps steps' w low e a same r =
+underway_more net k j sweep after last rows rows' p steps steps' m w low e a same r =
     let P : Swept → Type 0 = λ s. IsUnderway net k (j + 1) s rows' in
-    let back : j ≡ j + 1 - 1 = omega arith in
+    let more = step_later net k j m in
+    let at = a.at_is in
     subst P (sym same) (record {
       net_is = a.net_is ∙ w.net_is;
       unit_is = a.unit_is ∙ w.unit_is;
-      at_is = a.at_is ∙ e ∙ ap (λ n. step_units net k n) back;
+      at_most = omega (arith, ints, more, at, e);
       some = omega arith;
       most = omega (arith, low);
       held = r;
     })
+
+-- a row without a step
+pub underway_passed : (net : Network) (k j : ℕ) (sweep : Swept) (rows rows' : List Row) (row : Row) (p : ℤ) → IsMonotone net → IsUnderway net k j sweep rows → j ≤ k → p ≡ step_units net k j →
+    rows' ≡ rows ++ row ∷ [] → IsRightRow sweep.net (lowest (of_units sweep.unit p)) row → IsUnderway net k (j + 1) sweep rows'
+underway_passed net k j sweep rows rows' row p m w low e added right =
+    let more = step_later net k j m in
+    let at = w.at_most in
+    record {
+      net_is = w.net_is;
+      unit_is = w.unit_is;
+      at_most = omega (arith, ints, more, at);
+      some = omega arith;
+      most = omega (arith, low);
+      held = rows_more net k j rows rows' row w.held added (rw (w.net_is, w.unit_is, e) at right);
+    }
 
 pub underway_ends : (net : Network) (k j : ℕ) (sweep : Swept) (rows : List Row) → IsUnderway net k j sweep rows → j ≡ k + 1 → AreRows net k rows
 underway_ends net k j sweep rows w e = let P : ℕ → Type 0 = λ n. AreFirstRows net k n rows in subst P e w.held

@@ -3,7 +3,7 @@ ghost use Rattle.std.specs.Prelude.{◌≡◌, ◌≢◌, ◌↔◌, ◌+◌, �
 ghost use Rattle.pf_model.specs.declared.Sense.TheVariants.{Rising, Falling};
 ghost use Rattle.pf_net.specs.Limits.{IsBuilt};
 ghost use Rattle.pf_sweep.specs.Parameters.{HasNearEnds, is_too_fine, most_unit, unit_of, step_units};
-ghost use Rattle.pf_sweep.specs.Rows.{AreFirstRows, AreRows};
+ghost use Rattle.pf_sweep.specs.Rows.{IsUnderway, IsAhead, IsSeen, AreFirstRows, AreRows};
 
 use crate::sweep::{Sweep, SweepBad, SweepRow};
 use crate::turning::turned_rows;
@@ -105,11 +105,110 @@ fn add_row(
     Ok(())
 }
 
-// The rows behind the first one, with a counter that nobody reads.
+// The next row: that of the kept cut, if it has the least value at the parameter `y` ahead too; else the one after a step.
+fn add_next<L: Ledger>(
+    net: &Net,
+    k: u32,
+    j: u32,
+    y: &i128,
+    least: &i128,
+    sweep: &mut Sweep<'_>,
+    rows: &mut Rows,
+    steps: &mut Steps<L>,
+) -> Result<(), NoMemory>
+    requires some { 1 ≤ k }
+    requires most { k ≤ 100000 }
+    requires index { j ≤ k }
+    requires ends { HasNearEnds net.now }
+    requires fine { unit_of net.now k ≤ℤ pos most_unit }
+    requires sweep { IsUnderway net.now k j sweep.old rows.old }
+    requires seen { IsSeen net.now k j y.now least.now }
+    ensures { IfOk result (λ _. IsUnderway net.now k (j + 1) sweep.new rows.new) }
+{
+    // It tells that the network is one.
+    let _ = net.frame().nodes();
+    let y = *y;
+    let least = *least;
+    let p = numerator(net, k, j);
+    match sweep.row_before(y, least, p) {
+        Some(row) => {
+            rows.push(row)?;
+            Ok(())
+        }
+        None => {
+            sweep.advance(p, steps);
+            add_row(net, k, j, sweep, rows)?;
+            Ok(())
+        }
+    }
+}
+
+// The rows from row `from` to row `to`, at whose parameter the sweep ahead finds the least value.
+fn add_block<L: Ledger>(
+    net: &Net,
+    k: u32,
+    from: u32,
+    to: u32,
+    sweep: &mut Sweep<'_>,
+    ahead: &mut Sweep<'_>,
+    rows: &mut Rows,
+    steps: &mut Steps<L>,
+) -> Result<(), NoMemory>
+    requires some { 1 ≤ k }
+    requires most { k ≤ 100000 }
+    requires order { from ≤ to }
+    requires last { to ≤ k }
+    requires ends { HasNearEnds net.now }
+    requires fine { unit_of net.now k ≤ℤ pos most_unit }
+    requires sweep { IsUnderway net.now k from sweep.old rows.old }
+    requires ahead { IsAhead net.now k from ahead.old }
+    ensures sweep { IfOk result (λ _. IsUnderway net.now k (to + 1) sweep.new rows.new) }
+    ensures ahead { IfOk result (λ _. IsAhead net.now k (to + 1) ahead.new) }
+{
+    // It tells that the network is one.
+    let _ = net.frame().nodes();
+    let y = numerator(net, k, to);
+    ahead.advance(y, steps);
+    let least = ahead.value();
+    'each: for j in from..to + 1 {
+        add_next(net, k, j, &y, &least, sweep, rows, steps)?;
+    }
+    Ok(())
+}
+
+// The last row of a block of so many rows, or of all.
+fn last_of(from: u32, length: u32, k: u32) -> u32
+    requires some { 1 ≤ length }
+    requires few { length ≤ 330 }
+    requires order { from ≤ k }
+    requires most { k ≤ 100000 }
+    ensures order { from ≤ result }
+    ensures last { result ≤ k }
+{
+    (from + (length - 1)).min(k)
+}
+
+// How many rows to look ahead. A network has fewer breakpoints than nodes: so the square root of the number of steps a node, and at
+// least four.
+fn length_of(nodes: u32, k: u32) -> u32
+    requires { nodes ≤ 8192 }
+    ensures some { 1 ≤ result }
+    ensures few { result ≤ 330 }
+{
+    'length: for length in 4..330u32 {
+        if k <= length * length * nodes {
+            return length;
+        }
+    }
+    330
+}
+
+// The rows after the first one, with a counter that nobody reads.
 fn add_rows<L: Ledger>(
     net: &Net,
     k: u32,
     sweep: &mut Sweep<'_>,
+    ahead: &mut Sweep<'_>,
     rows: &mut Rows,
     blank: Blank,
 ) -> Result<(), NoMemory>
@@ -119,27 +218,31 @@ fn add_rows<L: Ledger>(
     requires some { 1 ≤ k }
     requires most { k ≤ 100000 }
     requires ends { HasNearEnds net.now }
-    requires net { sweep.old.net ≡ net.now }
-    requires unit { sweep.old.unit ≡ unit_of net.now k }
-    requires at { sweep.old.at ≡ step_units net.now k 0 }
     requires fine { unit_of net.now k ≤ℤ pos most_unit }
-    requires rows { AreFirstRows net.now k 1 rows.old }
+    requires sweep { IsUnderway net.now k 1 sweep.old rows.old }
+    requires ahead { IsAhead net.now k 1 ahead.old }
     ensures { IfOk result (λ _. AreRows net.now k rows.new) }
 {
-    // It tells that the network is one.
-    let _ = net.frame().nodes();
     let (book, share) = blank.open::<L>();
     let mut steps = Steps::new(book, share);
-    'each: for j in 1..k + 1 {
-        let p = numerator(net, k, j);
-        sweep.advance(p, &mut steps);
-        add_row(net, k, j, sweep, rows)?;
+    let length = length_of(net.frame().nodes(), k);
+    let mut from = 1u32;
+    'blocks: while from <= k {
+        let to = last_of(from, length, k);
+        add_block(net, k, from, to, sweep, ahead, rows, &mut steps)?;
+        from = to + 1;
     }
     Ok(())
 }
 
-// All rows of a sweep that stands at the low end.
-fn rows_from(alloc: Global, net: &Net, k: u32, sweep: &mut Sweep<'_>) -> Result<Rows, SweepBad>
+// All rows of a sweep that stands at the low end, as does the one that goes ahead.
+fn rows_from(
+    alloc: Global,
+    net: &Net,
+    k: u32,
+    sweep: &mut Sweep<'_>,
+    ahead: &mut Sweep<'_>,
+) -> Result<Rows, SweepBad>
     requires some { 1 ≤ k }
     requires most { k ≤ 100000 }
     requires ends { HasNearEnds net.now }
@@ -147,16 +250,19 @@ fn rows_from(alloc: Global, net: &Net, k: u32, sweep: &mut Sweep<'_>) -> Result<
     requires unit { sweep.old.unit ≡ unit_of net.now k }
     requires at { sweep.old.at ≡ step_units net.now k 0 }
     requires fine { unit_of net.now k ≤ℤ pos most_unit }
+    requires ahead { IsAhead net.now k 1 ahead.old }
     ensures rows { IfOk result (AreRows net.now k) }
     ensures fine { result ≢ Err SweepBad.TooFine }
 {
+    // It tells that the network is one.
+    let _ = net.frame().nodes();
     let mut rows = Rows::new(alloc);
     add_row(net, k, 0, sweep, &mut rows)?;
-    add_rows::<Brand>(net, k, sweep, &mut rows, Blank::new(1))?;
+    add_rows::<Brand>(net, k, sweep, ahead, &mut rows, Blank::new(1))?;
     Ok(rows)
 }
 
-// The rows of a rising network, by one sweep.
+// The rows of a rising network, by two sweeps, of which one goes ahead.
 fn rising_rows(alloc: Global, net: &Net, k: u32) -> Result<Rows, SweepBad>
     requires rising { net.now.sense ≡ Rising }
     requires some { 1 ≤ k }
@@ -169,7 +275,10 @@ fn rising_rows(alloc: Global, net: &Net, k: u32) -> Result<Rows, SweepBad>
     let _ = net.frame().nodes();
     let unit = unit(net, k);
     let mut sweep = Sweep::make(alloc, net, unit)?;
-    rows_from(alloc, net, k, &mut sweep)
+    let Ok(mut ahead) = Sweep::make(alloc, net, unit) else {
+        return Err(SweepBad::NoMemory);
+    };
+    rows_from(alloc, net, k, &mut sweep, &mut ahead)
 }
 
 // Whether the unit of the steps is too great.

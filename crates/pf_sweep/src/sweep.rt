@@ -1,5 +1,5 @@
 // A sweep through rising parameters, and its rows.
-ghost use Rattle.std.specs.Prelude.{◌≡◌, ◌↔◌, ◌+◌, ◌<◌, ◌≤◌, ◌^◌, length, map, true, cond, ℤ, pos, ◌≤ℤ◌, ◌<ℤ◌, ◌*ℤ◌, IfOk, Err};
+ghost use Rattle.std.specs.Prelude.{◌≡◌, ◌↔◌, IfSome, ◌+◌, ◌<◌, ◌≤◌, ◌^◌, length, map, true, cond, ℤ, pos, ◌≤ℤ◌, ◌<ℤ◌, ◌*ℤ◌, IfOk, Err};
 ghost use Rattle.pf_model.specs.declared.Sense.TheVariants.{Rising};
 ghost use Rattle.pf_model.specs.Fraction.{IsBoundedFraction, lowest};
 ghost use Rattle.pf_model.specs.Line.{value_at};
@@ -271,6 +271,34 @@ fn row_of(net: &Net, unit: i128, p: i128, side: &[bool], line: Line, count: u32)
     }
 }
 
+// The row of the kept cut at `p/unit`, if its line has the least value at the later parameter `y/unit` too. The cut is then the smallest
+// least one at both, and so between them.
+fn row_between(
+    net: &Net,
+    unit: i128,
+    y: i128,
+    least: i128,
+    p: i128,
+    side: &[bool],
+    line: Line,
+    count: u32,
+) -> Option<SweepRow>
+    requires inside { IsInInterval net.now (of_units unit p) }
+    requires far { IsInInterval net.now (of_units unit y) }
+    requires bounds { IsBoundedFraction (of_units unit p) }
+    requires wide { IsBoundedFraction (of_units unit y) }
+    requires before { p ≤ℤ y }
+    requires least { IsLeastValue (network_at net.now (of_units unit y)) least }
+    requires kept { IsKept net.now (of_units unit p) side.now line count }
+    ensures { IfSome result (IsRightRow net.now (lowest (of_units unit p))) }
+{
+    let _ = net.frame().nodes();
+    if line_value(&line, unit, y) == least {
+        return Some(row_of(net, unit, p, side, line, count));
+    }
+    None
+}
+
 // A greatest flow at the parameter `p/unit` of the interval, made from nothing, and the smallest least cut there.
 fn start_at(
     net: &Net,
@@ -420,6 +448,20 @@ impl<'a> Sweep<'a> {
         ensures settled { IsSettled self.now }
     {
         self.flow.as_slice()
+    }
+
+    // The row at `p/unit`, if the cut that is kept is least at the later parameter `y/unit` too, where the least value is `least`.
+    pub(crate) fn row_before(&self, y: i128, least: i128, p: i128) -> Option<SweepRow>
+        requires inside { IsInInterval self.now.net (of_units self.now.unit p) }
+        requires far { IsInInterval self.now.net (of_units self.now.unit y) }
+        requires later { self.now.at ≤ℤ p }
+        requires before { p ≤ℤ y }
+        requires least { IsLeastValue (network_at self.now.net (of_units self.now.unit y)) least }
+        ensures { IfSome result (IsRightRow self.now.net (lowest (of_units self.now.unit p))) }
+    {
+        row_between(
+            self.net, self.unit, y, least, p, &self.side, self.line, self.count,
+        )
     }
 
     /// The row of the parameter: the parameter in lowest terms, the least value there in units of `1/q` of that fraction, and the
