@@ -48,7 +48,7 @@ fn fills(from: i128, to: i128, cap: i128, x: i128) -> bool
     times(cap, from) <= times(x, to)
 }
 
-// What is left of `x` behind so many whole divisors.
+// What is left of `x` after so many whole divisors.
 fn remainder(x: i128, d: i128, whole: i128) -> i128
     requires unit { IsUnit d }
     requires high { x ≤ℤ (pos (2 ^ 75) *ℤ d) }

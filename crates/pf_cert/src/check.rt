@@ -71,7 +71,7 @@ fn own_place(net: &Net, curve: &Curve, i: usize) -> usize
     ensures own { result ≡ own_point net.now.sense i }
     ensures known { result < length curve.now.points }
 {
-    // It tells the numbers of points and cuts.
+    // Gives the proof the numbers of points and cuts.
     let _ = curve.points();
     match net.sense() {
         Sense::Rising => i + 1,
@@ -99,7 +99,7 @@ fn certifies_cut(
     ensures exact { IsTrue result ↔ CertifiesCut net.now curve.now.points curve.now.cuts curve.now.flows i }
     ensures places { KeepsPlaces scratch.old scratch.new }
 {
-    // It tells the numbers of points and flows.
+    // Gives the proof the numbers of points and flows.
     let _ = curve.points();
     if !meets(net, curve, i, i) {
         return false;

@@ -40,7 +40,7 @@ pub fn are_flows(net: &Net, curve: &Curve, scratch: &mut Scratch, caps: &mut [i1
     ensures bounded { OnTrue result (AreBounded (digraph_of net.now) curve.now.flows) }
     ensures places { KeepsPlaces scratch.old scratch.new }
 {
-    // It tells that the network is one.
+    // Gives the proof what every network keeps.
     let _ = net.frame();
     let points = curve.points();
     'points: for j in 0..points.len() {

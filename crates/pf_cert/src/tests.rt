@@ -52,7 +52,7 @@ fn three_flows(alloc: Global, middle: i128, first: i128, second: i128) -> Result
     Ok(flows)
 }
 
-// The source alone, and then with the node behind it.
+// The source alone, and then with the node after it.
 fn two_cuts(alloc: Global) -> Result<Sides, Fail>
     ensures count { IfOk result (λ cuts. length cuts ≡ 2) }
     ensures full { IfOk result (All (λ cut. length cut ≡ 3)) }

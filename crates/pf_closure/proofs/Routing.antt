@@ -18,7 +18,7 @@ use Rattle.pf_closure.proofs.Soundness.{IsWithinSlack}
 use Rattle.pf_closure.proofs.NetLemmas.{has_side}
 use Rattle.pf_closure.proofs.LeastCuts.{none_of, alone_cut}
 
--- the sum over arcs that stand behind others
+-- the sum over arcs that stand after others
 none_before : (a : ℤ) → a ≡ pos 0 +ℤ a
 none_before a = omega (arith, ints)
 
@@ -41,7 +41,7 @@ sum_behind test sink i (c ∷ costs) (w ∷ weights) (f ∷ (g ∷ flow)) later 
     let same = ap (λ n. sum_where test (map ends_of later) (drop n (f ∷ (g ∷ flow)))) e in
     behind_both (cond (test (ends_of (source_arc i w))) f (pos 0)) (cond (test (ends_of (sink_arc sink i c w))) g (pos 0)) _ _ _ _ rest same
 
--- items behind the one that is looked for
+-- items after the one that is looked for
 skip_out : (p q : Bool) (x y a : ℤ) → p ≡ false → q ≡ false → a ≡ pos 0 → cond p x (pos 0) +ℤ (cond q y (pos 0) +ℤ a) ≡ pos 0
 skip_out true q x y a e f h = cc
 skip_out false true x y a e f h = cc

@@ -19,7 +19,7 @@ pub record AreRouted (routing : List ℤ) (count : ℕ) : Type 0 where
 abbrev pub need_link : ClosureProblem → List ℤ → ℕ → Link
 need_link p routing k = record { first = needing_at p k; second = needed_at p k; to_first = true; to_second = int_lt (pos 0) (at_arc routing k) }
 
--- just these among the first items are marked, and none behind
+-- just these among the first items are marked, and none after
 pub record IsStart (slacks : List ℤ) (count : ℕ) (marks : List Bool) : Type 0 where
   pub strict : (i : ℕ) → i < count → pos 0 <ℤ at_arc slacks i → has marks i ≡ true
   pub only : (i : ℕ) → has marks i ≡ true → i < count

@@ -131,7 +131,7 @@ pub fn mark_dropped(items: &Items, routing: &[i128], sums: &[i128], marks: &mut 
     ensures full { length marks.new ≡ length marks.old }
     ensures dropped { (x : Fraction) → HasSlacks items.now x routing.now sums.now → IsDropped items.now x routing.now marks.new }
 {
-    // It tells that needs name items.
+    // Gives the proof that needs name items.
     let _ = items.items();
     mark_strict(sums, items.costs().len(), marks);
     let needs = Needs { items, routing };

@@ -11,7 +11,7 @@ use pf_frame::NoMemory;
 use pf_lines::{LineBad, RuleKind};
 use std::alloc::Global;
 
-/// The numbers of the header, and what the lines behind it have given so far: the cost and the weight of an item stand in
+/// The numbers of the header, and what the lines after it have given so far: the cost and the weight of an item stand in
 /// the item's place.
 #[derive(Drop)]
 pub struct ClosureState {
@@ -61,7 +61,7 @@ fn numbers_of(alloc: Global, slots: &[Option<(i64, i64)>]) -> Result<(Vec<i64>, 
 impl ClosureState {
     ghost use Rattle.pf_closure.specs.Gathered.{given_of, header_of};
 
-    /// Nothing behind a header of these numbers.
+    /// Nothing after a header of these numbers.
     pub fn new(alloc: Global, item_count: u32, need_count: usize) -> Result<ClosureState, NoMemory>
         ensures header { IfOk result (λ state. header_of state ≡ pos item_count ∷ pos need_count ∷ []) }
         ensures given { IfOk result (λ state. given_of state ≡ record { slots = replicate item_count None; needs = [] }) }

@@ -59,7 +59,7 @@ fn push_items(sink: u32, items: &Items, arcs: &mut Vec<AffineArc>) -> Result<(),
     requires { arcs.old.items ≡ [] }
     ensures { IfOk result (λ _. arcs.new.items ≡ item_arcs sink 0 items.now.costs items.now.weights) }
 {
-    // It tells the limits of the items.
+    // Gives the proof the limits of the items.
     let _ = items.items();
     let costs = items.costs();
     let weights = items.weights();
@@ -70,11 +70,11 @@ fn push_items(sink: u32, items: &Items, arcs: &mut Vec<AffineArc>) -> Result<(),
     Ok(())
 }
 
-// The arcs of the needs, behind them.
+// The arcs of the needs, after them.
 fn push_needs(items: &Items, arcs: &mut Vec<AffineArc>) -> Result<(), NoMemory>
     ensures { IfOk result (λ _. arcs.new.items ≡ arcs.old.items ++ map need_arc items.now.needs) }
 {
-    // It tells that needs name items.
+    // Gives the proof that needs name items.
     let _ = items.items();
     let needs = items.pairs();
     'needs: for k in 0..needs.len() {

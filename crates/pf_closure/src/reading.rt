@@ -84,8 +84,8 @@ impl ProblemKind for ClosureKind {
 /// Reads a text of the kind `closure`, up to and with its line `end`: its items and needs, or the first line that is refused,
 /// and why. `Repeated` is the rule of a second line of one item, `Missing` that of the line `end` where an item has no line.
 ///
-/// The reader of lines is left behind the line that decided: the line `end`, or the one that is refused. Where no line is `end`,
-/// it is left behind the last one.
+/// The reader of lines is left after the line that decided: the line `end`, or the one that is refused. Where no line is `end`,
+/// it is left after the last one.
 pub fn read_closure(alloc: Global, lines: &mut Lines<'_>) -> Result<Items, ReadBad>
     ensures judged { Agrees (problem_of_lines closure (lines_left lines.old))
         (λ items. record { problem = items; rest = lines.new.rest; line = lines.new.number }) result }

@@ -40,7 +40,7 @@ pub fn ratio_of(items: &Items, side: &[bool]) -> Rat
     ensures small { result.q ≤ℤ pos (2 ^ 44) }
     ensures shape { IsFractionShape result }
 {
-    // It tells the limits of the items.
+    // Gives the proof the limits of the items.
     let _ = items.items();
     let cost = sum_in(items.costs(), side);
     let weight = sum_in(items.weights(), side);

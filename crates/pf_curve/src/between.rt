@@ -94,7 +94,7 @@ fn write_lifted(
     ensures smallest { IsSmallestLeast (network_at piece.now.net at.now) side.new }
     ensures line { result ≡ line_of piece.now.net side.new }
 {
-    // It tells that the network is one.
+    // Gives the proof what every network keeps.
     let _ = piece.net().frame().nodes();
     piece.lift(chosen.side.as_slice(), side);
     Line::new(line.a() + chosen.a, line.b() + chosen.b)
@@ -146,7 +146,7 @@ pub fn find_between(
     ensures parameter { IfOk result (λ m. m.at ≡ at.now) }
     ensures least { IfOk result (λ m. IsLeastAt (IsLineOfCut net.now) m.line at.now) }
 {
-    // It tells that the network is one.
+    // Gives the proof what every network keeps.
     let _ = net.frame().nodes();
     let piece = Piece::between(alloc, net, small, large)?;
     opened.add(piece.node_count());

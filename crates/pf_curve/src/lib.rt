@@ -6,15 +6,15 @@ mod between;
 mod curve;
 mod family;
 mod finder;
+mod function;
 mod point;
-mod single;
+mod point_at;
 #[cfg(test)]
 mod tests;
 mod turning;
-mod whole;
 
 pub use curve::{Curve, CutFunction, Points, Sides};
 pub use finder::Finder;
+pub use function::{curve_of, cuts_of};
 pub use point::Point;
-pub use single::{AtBad, at};
-pub use whole::{curve_of, cuts_of};
+pub use point_at::{AtBad, at};

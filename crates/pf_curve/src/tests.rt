@@ -5,7 +5,7 @@ ghost use Rattle.pf_model.specs.declared.Sense.TheVariants.{Rising};
 use crate::between::Opened;
 use crate::family::Cuts;
 use crate::finder::Finder;
-use crate::whole::flows_at;
+use crate::function::flows_at;
 use crate::{at, curve_of, cuts_of};
 use pf_envelope::envelope;
 use pf_net::{AffineArc, Net};
@@ -72,7 +72,7 @@ fn arc(tail: u32, head: u32, a: i64, b: i64) -> AffineArc {
 #[test]
 fn three_pieces_are_opened(rt: HostRuntime) -> Result<(), Fail> {
     let net = five_nodes(rt.alloc())?;
-    // It tells that the network is one.
+    // Gives the proof what every network keeps.
     let _ = net.frame().nodes();
     let finder = Finder::make(rt.alloc(), &net)?;
     let mut family = Cuts {
@@ -89,7 +89,7 @@ fn three_pieces_are_opened(rt: HostRuntime) -> Result<(), Fail> {
 #[test]
 fn three_flows_are_carried(rt: HostRuntime) -> Result<(), Fail> {
     let net = five_nodes(rt.alloc())?;
-    // It tells that the network is one.
+    // Gives the proof what every network keeps.
     let _ = net.frame().nodes();
     let found = cuts_of(rt.alloc(), &net)?;
     let mut finder = Finder::make(rt.alloc(), &net)?;

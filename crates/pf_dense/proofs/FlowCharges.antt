@@ -18,7 +18,7 @@ use Rattle.pf_dense.specs.Reduction.{total_weight, weight_at, source_arc, sink_a
 use Rattle.pf_dense.specs.Carrying.{IsCarried}
 use Rattle.pf_dense.proofs.NetLemmas.{side_at, side_cut, side_sink, at_cut}
 
--- the sum over arcs that stand behind others
+-- the sum over arcs that stand after others
 none_before : (a : ℤ) → a ≡ pos 0 +ℤ a
 none_before a = omega (arith, ints)
 
@@ -37,7 +37,7 @@ sum_behind g test sink i (c ∷ costs) (f ∷ (h ∷ flow)) later room =
     let same = ap (λ n. sum_where test (map ends_of later) (drop n (f ∷ (h ∷ flow)))) e in
     behind_both (cond (test (0, suc i)) f (pos 0)) (cond (test (suc i, sink)) h (pos 0)) _ _ _ _ rest same
 
--- the arcs of the vertices behind the one that is looked for
+-- the arcs of the vertices after the one that is looked for
 skip_out : (p q : Bool) (x y a : ℤ) → p ≡ false → q ≡ false → a ≡ pos 0 → cond p x (pos 0) +ℤ (cond q y (pos 0) +ℤ a) ≡ pos 0
 skip_out true q x y a e f h = cc
 skip_out false true x y a e f h = cc

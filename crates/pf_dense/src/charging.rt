@@ -45,7 +45,7 @@ pub fn are_charges(graph: &Graph, at: &Rat, charges: &[i128]) -> bool
     requires { length charges.now ≡ length graph.now.ends }
     ensures { IsTrue result ↔ AreChargesTo graph.now at.now charges.now (length graph.now.ends) }
 {
-    // It tells the limits of the graph.
+    // Gives the proof the limits of the graph.
     let _ = graph.vertices();
     'edges: for i in 0..graph.edges() {
         let (_, _, weight) = graph.edge(i);
@@ -74,7 +74,7 @@ pub fn write_charged(graph: &Graph, at: &Rat, charges: &[i128], sums: &mut [i128
     requires places { graph.now.nodes ≤ length sums.old }
     ensures { HasCharged graph.now at.now charges.now sums.new }
 {
-    // It tells the limits of the graph.
+    // Gives the proof the limits of the graph.
     let _ = graph.vertices();
     sums.fill(0);
     'edges: for i in 0..graph.edges() {

@@ -51,7 +51,7 @@ fn link_of(graph: &Graph, at: &Rat, charges: &[i128], i: usize) -> Link
     requires there { i < length graph.now.ends }
     ensures { result ≡ edge_link graph.now at.now charges.now i }
 {
-    // It tells the limits of the graph.
+    // Gives the proof the limits of the graph.
     let _ = graph.vertices();
     let (first, second, weight) = graph.edge(i as u32);
     let charge = charges[i];
@@ -72,7 +72,7 @@ pub fn mark_dropped(graph: &Graph, at: &Rat, charges: &[i128], sums: &[i128], ma
     ensures full { length marks.new ≡ length marks.old }
     ensures dropped { IsDroppedBy graph.now at.now charges.now marks.new }
 {
-    // It tells that edges join vertices.
+    // Gives the proof that edges join vertices.
     let _ = graph.vertices();
     mark_strict(graph, at, sums, marks);
     let edges = Edges { graph, at, charges };

@@ -66,7 +66,7 @@ fn write_weights(graph: &Graph, sums: &mut [i64])
     requires { length sums.old ≡ graph.now.nodes }
     ensures { HasWeights graph.now sums.new }
 {
-    // It tells the limits of the graph.
+    // Gives the proof the limits of the graph.
     let _ = graph.vertices();
     sums.fill(0);
     'edges: for i in 0..graph.edges() {
@@ -82,7 +82,7 @@ fn total_weight(graph: &Graph) -> i64
     ensures low { pos 0 ≤ℤ result }
     ensures high { result ≤ℤ pos (2 ^ 33) }
 {
-    // It tells the limits of the graph.
+    // Gives the proof the limits of the graph.
     let _ = graph.vertices();
     let mut total: i64 = 0;
     'edges: for i in 0..graph.edges() {
@@ -115,11 +115,11 @@ fn push_vertices(
     Ok(())
 }
 
-// The arcs of the edges, behind them.
+// The arcs of the edges, after them.
 fn push_edges(graph: &Graph, arcs: &mut Vec<AffineArc>) -> Result<(), NoMemory>
     ensures { IfOk result (λ _. arcs.new.items ≡ arcs.old.items ++ edge_arcs graph.now.ends graph.now.weights) }
 {
-    // It tells the limits of the graph.
+    // Gives the proof the limits of the graph.
     let _ = graph.vertices();
     'edges: for i in 0..graph.edges() {
         let (first, second, weight) = graph.edge(i);

@@ -37,7 +37,7 @@ fn density_of(graph: &Graph, set: &[bool]) -> Rat
     ensures density { HasDensity graph.now result set.now }
     ensures inside { IsInInterval (dense_net graph.now) result }
 {
-    // It tells the limits of the graph.
+    // Gives the proof the limits of the graph.
     let _ = graph.vertices();
     let weight = graph.inside(set);
     let cost = graph.cost_of(set);
@@ -66,7 +66,7 @@ fn step(
     ensures density { HasDensity graph.now result set.new }
     ensures within { IsInInterval (dense_net graph.now) result }
 {
-    // It tells the limits of the graph.
+    // Gives the proof the limits of the graph.
     let _ = graph.vertices();
     finder.write_point(at, side, flow);
     write_outside(side, set);
@@ -90,7 +90,7 @@ fn settle(
     ensures point { IsPoint (dense_net graph.now) result side.new flow.new }
     ensures outside { set.new ≡ outside_of graph.now side.new }
 {
-    // It tells the limits of the graph.
+    // Gives the proof the limits of the graph.
     let _ = graph.vertices();
     let mut density = density_of(graph, set);
     'steps: loop {

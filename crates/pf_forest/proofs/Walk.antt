@@ -10,7 +10,7 @@ use Rattle.pf_forest.specs.Held.{IsHeld, IsBare, IsTree, IsHit, HasParent, tail_
 use Rattle.pf_forest.proofs.Holding.{shifted, shifted_at, at_set_other, holder_at_tail, holder_at_head, held_from_tail, held_from_head, rooms_high}
 use Rattle.pf_forest.proofs.Tree.{Holds}
 
--- room is at b; behind it, the tree is as it was
+-- room is at b; after it, the tree is as it was
 pub record IsWalk (g : Digraph) (limit : ℤ) (vector before : List ℤ) (root skip : ℕ) (side : List Bool) (via rank : List ℕ) (heads rooms : List ℤ) (b : ℕ) : Type 0 where
   pub held : IsHeld g limit vector heads rooms
   pub bare : IsBare rooms limit root skip

@@ -43,7 +43,7 @@ pub record MeetsTotal (g : WeightedGraph) (x : Fraction) (vector : List ℤ) (la
 pub record AreSplits (g : WeightedGraph) (x : Fraction) (vector : List ℤ) (splits : List (List ℤ)) (first count : ℕ) : Type 0 where
   pub each : (r : ℕ) → r < count → IsSplit (digraph_of g) x.p vector (row_at splits (first + r)) r
 
--- the table has a split for each of the first vertices behind the rows that it had
+-- the table has a split for each of the first vertices after the rows that it had
 pub record AddsSplits (g : WeightedGraph) (x : Fraction) (vector : List ℤ) (old new : List (List ℤ)) (count : ℕ) : Type 0 where
   pub rows : length new ≡ length old + count
   pub kept : (k : ℕ) → k < length old → row_at new k ≡ row_at old k

@@ -134,7 +134,7 @@ fn raise_to(
     ensures forest { IsForest frame.now limit vector.new heads.new rooms.new groups.new }
     ensures raised { IsRaised frame.now vector.old groups.old vector.new groups.new e goal }
 {
-    // It tells that the frame is a graph.
+    // Gives the proof that the frame is a graph.
     let _ = frame.nodes();
     let u = frame.tail(e);
     let v = frame.head(e);
@@ -242,7 +242,7 @@ pub(crate) fn orient(
     ensures held { IsHeld frame.now limit vector.now heads.new rooms.new }
     ensures split { IsSplit frame.now limit vector.now shares.new root }
 {
-    // It tells that the frame is a graph.
+    // Gives the proof that the frame is a graph.
     let _ = frame.nodes();
     bare(
         frame, limit, vector, heads, rooms, side, queue, via, rank, root,
@@ -264,7 +264,7 @@ fn share_out(
     ensures full { length shares.new ≡ length frame.now.ends }
     ensures each { (i : ℕ) → i < length frame.now.ends → at_arc shares.new i ≡ at_arc vector.now i -ℤ at_arc heads.now i }
 {
-    // It tells that the frame is a graph.
+    // Gives the proof that the frame is a graph.
     let _ = frame.nodes();
     'edges: for e in 0..shares.len() {
         shares[e] = vector[e] - heads[e];
@@ -295,7 +295,7 @@ pub(crate) fn raise(
     ensures raised { IsRaised frame.now vector.old groups.old vector.new groups.new e (at_arc vector.old e +ℤ (limit +ℤ pos 1)) }
     ensures joined { label groups.new (tail_of frame.now.ends e) ≡ label groups.new (head_of frame.now.ends e) }
 {
-    // It tells that the frame is a graph.
+    // Gives the proof that the frame is a graph.
     let _ = frame.nodes();
     let goal = vector[e as usize] + (limit + 1);
     raise_to(

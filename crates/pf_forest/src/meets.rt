@@ -173,7 +173,7 @@ pub fn are_splits(
     let limit = level.p();
     let q = level.q();
     prove!(q >= 1);
-    // It tells that the numbers of the rows fit.
+    // Gives the proof that the numbers of the rows fit.
     let _rows = splits.rows();
     'roots: for r in 0..graph.vertices() {
         let shares = splits.row(first + r as usize);

@@ -47,7 +47,7 @@ raw_line (b ∷ bytes) rest all =
     let inside = not_true (eqb b 10) p.0 in
     rw inside (ap (in_front b) (raw_line bytes rest p.1))
 
--- line k with these fields, and the text behind it
+-- line k with these fields, and the text after it
 abbrev spelled : ℕ → List (List ℕ) → List ℕ → Line
 spelled k parts rest = record { number = k; fields = parts; rest = rest }
 
@@ -60,7 +60,7 @@ line_read k parts rest plain kept =
     lines_give k (line parts ++ rest) (join_with_byte 32 parts) rest raw (ap is_passed_over same ∙ kept)
     ∙ ap (λ (parts : List (List ℕ)). spelled k parts rest ∷ lines_from (k + 1) rest) same
 
--- a line behind the header that is taken
+-- a line after the header that is taken
 goes_on : (state next : State Given) (k : ℕ) (parts : List (List ℕ)) (rest : List ℕ) → ArePlain parts → is_passed_over parts ≡ false → is_end parts ≡ false
     → step par state (spelled k parts rest) ≡ Ok next → body par state (lines_from k (line parts ++ rest)) ≡ body par next (lines_from (k + 1) rest)
 goes_on state next k parts rest plain kept goes ok =
@@ -322,7 +322,7 @@ text_of_lines-append (parts ∷ a) b = ap (λ (t : List ℕ). line parts ++ t) (
 
 -- ---- the whole text
 
--- behind the lines before the arcs
+-- after the lines before the arcs
 behind_front : (n m : ℕ) (arcs : List AffineArc) → n ≤ 1000 → length arcs ≡ m → AllByRecursion (IsTaken n) arcs
     → body par (state n m (Some interval) (Some 0) (Some (n - 1)) 0 []) (lines_from 5 (text_of_lines (map arc_fields arcs ++ (codes "end" ∷ []) ∷ [])))
     ≡ Ok (record { problem = record { nodes = n; source = 0; sink = n - 1; sense = Rising; low = interval.low; high = interval.high; arcs = arcs }; rest = []; line = m + 5 })

@@ -37,7 +37,7 @@ three_more seed i old new was moved =
     let more : suc (suc (suc (3 * i))) ≡ 3 * (i + 1) = omega arith in
     moved ∙ ap (λ (g : Lcg). behind (behind (behind g))) was ∙ ap (generator_behind seed) more
 
--- behind the lines before the arcs
+-- after the lines before the arcs
 pub text_begins : (empty text front : List ℕ) → empty ≡ [] → text ≡ empty ++ front → text ≡ front ++ []
 text_begins empty text front none added = added ∙ ap (λ (t : List ℕ). t ++ front) none ∙ sym (append-nil front)
 

@@ -12,7 +12,7 @@ use Rattle.pf_gen.specs.declared.drawing.Words.{Words}
 
 -- ---- the words: O'Neill's generator PCG XSH RR 64/32, which gives 32 bits a word
 
--- the word that a generator gives, and the generator behind it
+-- the word that a generator gives, and the generator after it
 unfoldable pub word_of : Lcg → ℕ
 word_of generator = (pcg32 generator).0
 
@@ -23,7 +23,7 @@ behind generator = (pcg32 generator).1
 unfoldable pub first_generator : ℕ → Lcg
 first_generator seed = started 64 multiplier_64 seed (increment_of 64 54)
 
--- the generator behind its first i words
+-- the generator after its first i words
 abbrev pub generator_behind : ℕ → ℕ → Lcg
 generator_behind seed zero = first_generator seed
 generator_behind seed (suc i) = behind (generator_behind seed i)

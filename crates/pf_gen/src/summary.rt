@@ -76,7 +76,7 @@ pub fn summary_of(alloc: Global, seed: u64, n: u32, m: u32) -> Result<Summary, N
     ensures { IfOk result (Summarizes (net_of seed n m)) }
 {
     let net = drawn_net(alloc, seed, n, m)?;
-    // It tells that the network is one.
+    // Gives the proof what every network keeps.
     let _ = net.frame().nodes();
     let curve = curve_of(alloc, &net)?;
     Ok(summarize(&net, &curve))

@@ -12,7 +12,7 @@ use pf_frame::NoMemory;
 use pf_lines::{LineBad, RuleKind};
 use std::alloc::Global;
 
-/// The numbers of the header, and what the lines behind it have given so far.
+/// The numbers of the header, and what the lines after it have given so far.
 #[derive(Drop)]
 pub struct GraphState {
     pub vertex_count: u32,
@@ -46,7 +46,7 @@ fn amount(number: i64) -> u32
 impl GraphState {
     ghost use Rattle.pf_graph.specs.Gathered.{given_of, header_of};
 
-    /// Nothing behind a header of these numbers.
+    /// Nothing after a header of these numbers.
     pub fn new(alloc: Global, numbers: &[i64]) -> Result<GraphState, NoMemory>
         requires { Fits widest_header numbers.now }
         ensures header { IfOk result (λ state. header_of state ≡ numbers.now) }

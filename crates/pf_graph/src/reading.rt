@@ -83,8 +83,8 @@ impl ProblemKind for Task {
 /// Reads a text of the kind `graph`, up to and with its line `end`: its graph, or the first line that is refused, and why.
 /// `Repeated` is the rule of a second line of one vertex or of one price, `Loop` that of an edge from a vertex to itself.
 ///
-/// The reader of lines is left behind the line that decided: the line `end`, or the one that is refused. Where no line is `end`,
-/// it is left behind the last one.
+/// The reader of lines is left after the line that decided: the line `end`, or the one that is refused. Where no line is `end`,
+/// it is left after the last one.
 pub fn read_graph(alloc: Global, lines: &mut Lines<'_>, task: Task) -> Result<Graph, ReadBad>
     ensures judged { Agrees (problem_of_lines (graph task) (lines_left lines.old))
         (λ g. record { problem = g; rest = lines.new.rest; line = lines.new.number }) result }

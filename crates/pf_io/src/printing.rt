@@ -174,7 +174,7 @@ pub fn print_row<K: Sink>(
     print_rest(out, numbers)
 }
 
-/// A line of a fraction, and numbers behind it, as `d P Q`, `x ID P Q` and `b J P Q V`.
+/// A line of a fraction, and numbers after it, as `d P Q`, `x ID P Q` and `b J P Q V`.
 pub fn print_fraction_row<K: Sink>(
     out: &mut Printer<'_, K>,
     word: &[u8],
@@ -189,7 +189,7 @@ pub fn print_fraction_row<K: Sink>(
     print_rest_fraction(out, at, numbers)
 }
 
-/// A line of numbers, and a side behind them, as `s SIDE`, `s J SIDE` and `s J A B SIDE`.
+/// A line of numbers, and a side after them, as `s SIDE`, `s J SIDE` and `s J A B SIDE`.
 pub fn print_side_row<K: Sink>(
     out: &mut Printer<'_, K>,
     word: &[u8],

@@ -52,7 +52,7 @@ inner_next g points cuts levels layers graph c m f j set low full apart same =
     (dense_next g (point_at net points i) (outside_cut g cuts j) (before layers (suc (suc j))) set below step
     (record { full = full; some = record { vertex = some.place; held = some.held } }) apart same)
 
--- behind the first cut
+-- after the first cut
 pub last_next : (g : WeightedGraph) (points : List Fraction) (cuts : List (List Bool)) (layers : List ℤ) → IsWeightedGraph g →
     IsCurve (dense_net g) points cuts → IsNumbered g.nodes (outside_cut g cuts) layers (length cuts) → HasNumber layers (length cuts) →
     (j : ℕ) (set : List Bool) → suc j ≡ length cuts → length set ≡ g.nodes → IsApart (outside_cut g cuts j) set →

@@ -57,7 +57,7 @@ all_step g all graph full on = record {
   greatest = λ other long tie v h. on v (let low = inside other v h in omega (arith, low, long));
 }
 
--- the cut behind a point, and the one before it, both at that point
+-- the cut after a point, and the one before it, both at that point
 pub right_of : (g : WeightedGraph) (points : List Fraction) (cuts : List (List Bool)) (i : ℕ) → IsWeightedGraph g → IsCurve (dense_net g) points cuts → i < length cuts →
     IsLeastSet g (point_at (dense_net g) points i) (outside_of g (cut_at cuts i))
 right_of g points cuts i graph c low =

@@ -46,7 +46,7 @@ same_before n IsNext levels levels' layers layers' o a b (suc j) low low' =
     let next = same_next n IsNext levels levels' layers layers' o a b j (omega (arith, low)) (omega (arith, low')) same in
     before_more layers (suc j) ∙ ap (λ taken. union taken (layer layers (suc j))) same ∙ ap (λ set. union (before layers' (suc j)) set) next.same ∙ sym (before_more layers' (suc j))
 
--- behind the last layer of the one list nothing is left for the other
+-- after the last layer of the one list nothing is left for the other
 all_before : (n : ℕ) (IsNext : List Bool → Fraction → List Bool → Type 0) (levels : List Fraction) (layers : List ℤ) → AreLayers n IsNext levels layers →
     (v : ℕ) → v < n → has (before layers (suc (length levels))) v ≡ true
 all_before n IsNext levels layers a v low =

@@ -88,7 +88,7 @@ next_of p points cuts layers items c j set low full apart same =
     (record { full = full; some = record { item = some.place; held = some.held }; apart = apart; closure = subst (IsClosure p) same step.closure })
     same
 
--- behind each layer stands the next cut
+-- after each layer stands the next cut
 behind_is : (p : ClosureProblem) (points : List Fraction) (cuts : List (List Bool)) (layers : List ℤ) (count : ℕ) → IsBoundedProblem p → IsCurve (closure_net p) points cuts →
     suc count ≡ length cuts → IsNumbered (length p.costs) (items_in p cuts) layers count → (j : ℕ) → j < count → before layers (suc (suc j)) ≡ items_in p cuts (suc j)
 behind_is p points cuts layers count items c many m j low = elim (cases_lt (suc j) count) [

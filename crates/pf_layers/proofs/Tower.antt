@@ -67,7 +67,7 @@ some_more taken set next e same different = elim (some_or_none set) [
       (λ v h. ap (λ l. has l v) same ∙ has-union taken set v ∙ ap (λ b. b || has set v) h)))
 ]
 
--- behind the last layer stands every element
+-- after the last layer stands every element
 pub all_before : (n : ℕ) (sets : ℕ → List Bool) (layers : List ℤ) (count : ℕ) → IsNumbered n sets layers count → (v : ℕ) → v < n → has (before layers (suc count)) v ≡ true
 all_before n sets layers count m v low =
     let high = m.high v low in

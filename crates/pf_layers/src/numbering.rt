@@ -47,7 +47,7 @@ pub fn number_vertices(graph: &Graph, curve: &CutFunction, layers: &mut [i128])
     requires ones { layers.old ≡ replicate graph.now.nodes (pos 1) }
     ensures { IsNumbered graph.now.nodes (outside_cut graph.now curve.now.cuts) layers.new (length curve.now.cuts) }
 {
-    // It tells the limits of the graph.
+    // Gives the proof the limits of the graph.
     let _ = graph.vertices();
     let count = curve.points().len() - 1;
     'cuts: for j in 1..count {
@@ -63,7 +63,7 @@ pub fn number_items(items: &Items, curve: &CutFunction, count: usize, layers: &m
     requires ones { layers.old ≡ replicate (length items.now.costs) (pos 1) }
     ensures { IsNumbered (length items.now.costs) (items_in items.now curve.now.cuts) layers.new count }
 {
-    // It tells the limits of the items.
+    // Gives the proof the limits of the items.
     let _ = items.items();
     'cuts: for j in 1..count {
         put_left(curve.cut(j), j + 1, layers);

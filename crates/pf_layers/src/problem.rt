@@ -72,8 +72,8 @@ fn read_edges(alloc: Global, lines: &mut Lines<'_>) -> Result<LayerProblem, Read
 /// problem, or the first line that is refused, and why. `WrongKind` comes where the header's kind is neither. Every other refusal is
 /// that of the kind which the header names.
 ///
-/// The reader of lines is left behind the line that decided: the line `end`, or the one that is refused. Where no line is `end`,
-/// it is left behind the last one.
+/// The reader of lines is left after the line that decided: the line `end`, or the one that is refused. Where no line is `end`,
+/// it is left after the last one.
 pub fn read_layers(alloc: Global, lines: &mut Lines<'_>) -> Result<LayerProblem, ReadBad>
     ensures judged { Agrees (layer_problem_of_lines (lines_left lines.old))
         (λ p. record { problem = p; rest = lines.new.rest; line = lines.new.number }) result }

@@ -11,7 +11,7 @@ use Rattle.pf_lines.specs.declared.numbers.Bad.TheVariants.{OutOfRange}
 use Rattle.pf_lines.specs.Ranges.{in_ranges, ranged_numbers, at_number, header_numbers}
 use Rattle.pf_lines.specs.Gathering.{state_of}
 
--- the state behind a header of these numbers
+-- the state after a header of these numbers
 abbrev begun_by : {G P : Type 0} → Kind G P → Result (List ℤ) TextBad → Result (State G) TextBad
 begun_by kind (Ok numbers) = Ok (state_of numbers 0 (kind.start numbers))
 begun_by kind (Err bad) = Err bad

@@ -7,7 +7,7 @@ use Rattle.pf_lines.specs.declared.errors.AnswerBad.{AnswerBad}
 use Rattle.pf_lines.specs.Taking.{IsExcused}
 
 -- A kind of items: the text of some from a place on, that of the item at a place, which values are items, and what may
--- stand behind one, as another item may.
+-- stand after one, as another item may.
 pub record Items (X : Type 0) : Type 1 where
   pub text : ℕ → List X → List ℕ
   pub item : ℕ → X → List ℕ
@@ -29,7 +29,7 @@ none_later got whole (x ∷ others) split long = absurd (let n = ap length split
 
 -- ---- texts of items
 
--- the text of some, and of others behind them
+-- the text of some, and of others after them
 text-append : {X : Type 0} (K : Items X) (j : ℕ) (a b : List X) → K.text j (a ++ b) ≡ K.text j a ++ K.text (j + length a) b
 text-append K j [] b = ap (λ (n : ℕ). K.text n b) (omega arith) ∙ ap (λ (t : List ℕ). t ++ K.text (j + 0) b) (sym (K.none j))
 text-append K j (x ∷ a) b =
@@ -47,7 +47,7 @@ text_more K j got x count =
     ∙ ap (λ (n : ℕ). K.text 0 got ++ K.text n (x ∷ [])) place
     ∙ ap (λ (t : List ℕ). K.text 0 got ++ t) (K.more j x [] ∙ ap (λ (t : List ℕ). K.item j x ++ t) (K.none (j + 1)) ∙ append-nil (K.item j x))
 
--- what stands behind an item, where others follow
+-- what stands after an item, where others follow
 behind_item : {X : Type 0} (K : Items X) (j : ℕ) (later : List X) (rest : List ℕ) → K.MayFollow rest → K.MayFollow (K.text j later ++ rest)
 behind_item K j [] rest ok = subst K.MayFollow (ap (λ (t : List ℕ). t ++ rest) (sym (K.none j))) ok
 behind_item K j (x ∷ later) rest ok =
@@ -61,7 +61,7 @@ pub record IsFront {X : Type 0} (K : Items X) (j : ℕ) (got whole : List X) (no
   pub split : whole ≡ got ++ others
   pub left : now ≡ K.text j others ++ rest
 
--- the text is that of so many items, and these bytes stand behind it
+-- the text is that of so many items, and these bytes stand after it
 pub record Stand {X : Type 0} (K : Items X) (count : ℕ) (old : List ℕ) (whole : List X) (rest : List ℕ) : Type 0 where
   pub full : length whole ≡ count
   pub each : All K.Is whole
@@ -83,7 +83,7 @@ items_begin K count old = record {
   front = λ whole rest s. record { others = whole; split = refl; left = s.text };
 }
 
--- the item that comes next, and what is left behind it
+-- the item that comes next, and what is left after it
 pub record IsNext {X : Type 0} (K : Items X) (j : ℕ) (now rest : List ℕ) (got whole : List X) : Type 0 where
   pub item : X
   pub later : List X

@@ -82,7 +82,7 @@ pub end_refusal : {G P : Type 0} (kind : Kind G P) (state : State G) (line : Lin
 unfolding end_line
 end_refusal kind state line bad e = by_test line.number _ (Count line.number) _ bad refl (by_rule line.number (kind.problem state.header_numbers state.given) _ bad) e
 
--- behind the line that is refused
+-- after the line that is refused
 pub behind_refusal : {X Y : Type 0} (judged : Result Y TextBad) (value : X → Y) (answer : ReadBad) (line : Line) (place : Place)
     → Agrees judged value (Err answer) → ((bad : TextBad) → judged ≡ Err bad → refused_line bad ≡ Some line.number) → place ≡ behind line → IsBehindRefusal answer place
 behind_refusal judged value (Text bad) line place e told is = rw (told bad e, is) refl

@@ -74,7 +74,7 @@ pub stops_fields : (fields : List (List ℕ)) (rest : List ℕ) → Stops rest �
 stops_fields [] rest stops = stops
 stops_fields (field ∷ fields) rest stops = refl
 
--- the index at a place, and those behind it
+-- the index at a place, and those after it
 pub index_then : (indices : List ℕ) (i other : ℕ) (rest : List ℕ) → i < length indices
     → spaced (map decimal (drop i indices)) ++ rest ≡ (32 ∷ decimal (get_or indices i other)) ++ (spaced (map decimal (drop (i + 1) indices)) ++ rest)
 index_then indices i other rest low =
@@ -85,7 +85,7 @@ index_then indices i other rest low =
 pub line_rest : (word indices : List ℕ) (fields : List (List ℕ)) (rest : List ℕ) → line (head word indices ++ fields) ++ rest ≡ head_text word indices ++ (rest_of_line fields ++ rest)
 line_rest word indices fields rest = ap (λ (t : List ℕ). t ++ rest) (sym (head_then word indices fields)) ∙ append_assoc (head_text word indices) (rest_of_line fields) rest
 
--- what stands behind the head of a line
+-- what stands after the head of a line
 pub behind_head : (word indices : List ℕ) (fields : List (List ℕ)) (rest t0 t1 : List ℕ) → ((r : List ℕ) → Stops r → t0 ≡ head_text word indices ++ r → t1 ≡ r)
     → t0 ≡ line (head word indices ++ fields) ++ rest → t1 ≡ spaced fields ++ (10 ∷ rest)
 behind_head word indices fields rest t0 t1 found there = found (spaced fields ++ (10 ∷ rest)) (stops_fields fields (10 ∷ rest) refl) (there ∙ line_then word indices fields rest)

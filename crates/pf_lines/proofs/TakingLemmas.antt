@@ -30,14 +30,14 @@ number_alone (negsuc n) few =
     let all = (decimal_reads (suc n) few).all in
     number_front-minus (decimal (suc n)) ∙ ap (λ (ds : List ℕ). 45 ∷ ds) (all_digits (decimal (suc n)) all)
 
--- a number, and no digit behind it
+-- a number, and no digit after it
 pub number_in_front : (n : ℤ) (rest : List ℕ) → nat_abs n < 10 ^ 64 → Stops rest → number_front (signed_decimal n ++ rest) ≡ signed_decimal n
 number_in_front n [] few stops = ap number_front (append-nil (signed_decimal n)) ∙ number_alone n few
 number_in_front n (b ∷ rest) few stops = number_front-signed_decimal n b rest few stops
 
 -- ---- what is left
 
--- behind one word stands one rest
+-- after one word stands one rest
 pub rest_is : (old word new rest : List ℕ) → old ≡ word ++ new → old ≡ word ++ rest → new ≡ rest
 rest_is old word new rest taken e = append_cancel_left word new rest (sym taken ∙ e)
 

@@ -11,7 +11,7 @@ use Rattle.pf_lines.specs.declared.errors.LineBad.{LineBad}
 use Rattle.pf_lines.specs.declared.errors.LineBad.TheVariants.{Broken, NoMemory}
 use Rattle.pf_lines.specs.Places.{Place}
 
--- The result is what the rules decide: this value of what was made, or the rule that is broken. Want of memory says nothing.
+-- The result is what the rules decide: this value of what was made, or the rule that is broken. Running out of memory says nothing.
 abbrev pub ObeysRules : {X Y : Type 0} → Result Y RuleKind → (X → Y) → Result X LineBad → Type 0
 ObeysRules decided value (Ok x) = decided ≡ Ok (value x)
 ObeysRules decided value (Err (Broken rule)) = decided ≡ Err rule

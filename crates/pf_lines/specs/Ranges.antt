@@ -22,7 +22,7 @@ ranged_behind fits front patterns None = Err NotNumber
 ranged_behind true front patterns (Some numbers) = if are_in_range patterns numbers then Ok (front ++ numbers) else Err OutOfRange
 ranged_behind false front patterns (Some numbers) = Err OutOfRange
 
--- the same behind one more field, if it has its pattern
+-- the same after one more field, if it has its pattern
 abbrev pub behind_field : Option Bool → List ℤ → List FieldPattern → Option (List ℤ) → Result (List ℤ) Bad
 behind_field None front patterns numbers = Err NotNumber
 behind_field (Some fits) front patterns numbers = ranged_behind fits front patterns numbers

@@ -17,7 +17,7 @@ abbrev pub IsExcused : AnswerBad → Type 0
 IsExcused NotText = ⊥
 IsExcused NoMemory = Unit {0}
 
--- The text has this value in front, and these bytes behind it: then the value is found, and these bytes are left, or memory
+-- The text has this value in front, and these bytes after it: then the value is found, and these bytes are left, or memory
 -- was wanted.
 abbrev pub Takes : {X : Type 0} → X → List ℕ → Result X AnswerBad → List ℕ → Type 0
 Takes x rest (Ok y) left = (y ≡ x) × (left ≡ rest)

@@ -44,7 +44,7 @@ fn split_number(text: &[u8]) -> (&[u8], &[u8])
     }
 }
 
-// Whether no zero stands in front of another digit, also behind a `-`.
+// Whether no zero stands in front of another digit, also after a `-`.
 fn is_canonical(front: &[u8]) -> bool
     ensures { result ≡ is_canonical front.now }
 {

@@ -19,6 +19,11 @@ pub enum Pattern {
 }
 
 impl Default for Pattern {
+    ghost use Rattle.std.specs.Prelude.{[]};
+    ghost use Rattle.pf_text.specs.Kinds.{word};
+
+    ghost is_default = { λ p. pattern_of p ≡ word [] };
+
     /// The empty word, which no field is.
     fn default() -> Pattern {
         Pattern::Word(b"")

@@ -22,7 +22,7 @@ use std::alloc::Global;
 /// The reader of problems does all else: it finds the header and the line `end`, matches each line
 /// with a form, tests the numbers' ranges, and counts.
 pub trait ProblemKind {
-    /// The numbers of the header, and what the lines behind it have given so far.
+    /// The numbers of the header, and what the lines after it have given so far.
     type State: Drop;
 
     /// What the whole text gives.
@@ -33,7 +33,7 @@ pub trait ProblemKind {
 
     ghost Value: { Type 0 };
 
-    // The kind of the definition, what a state has of the header and of the lines behind it, and the problem.
+    // The kind of the definition, what a state has of the header and of the lines after it, and the problem.
     ghost kind: { Self → Kind Self.Gathered Self.Value };
 
     ghost header_of: { Self.State → List ℤ };
@@ -46,12 +46,12 @@ pub trait ProblemKind {
     fn name(&self) -> &'static [u8]
         ensures { result.now ≡ (kind self.now).name };
 
-    /// What the fields behind the name have to be.
+    /// What the fields after the name have to be.
     fn header(&self) -> &'static [Pattern]
         ensures are { map pattern_of result.now ≡ (kind self.now).header_patterns }
         ensures few { length result.now ≤ 6 };
 
-    /// What is given before the first line behind a header of these numbers.
+    /// What is given before the first line after a header of these numbers.
     fn start(&self, alloc: Global, numbers: &[i64]) -> Result<Self::State, NoMemory>
         requires { Fits (kind self.now).header_patterns numbers.now }
         ensures header { IfOk result (λ state. header_of state ≡ numbers.now) }
@@ -79,7 +79,7 @@ pub trait ProblemKind {
         ensures { ObeysRules ((kind self.now).problem (header_of state) (given_of state)) value_of result };
 }
 
-// The numbers of a header of this name, with these patterns behind it.
+// The numbers of a header of this name, with these patterns after it.
 fn read_header(
     alloc: Global,
     line: &TextLine<'_>,
@@ -205,7 +205,7 @@ fn take_lines<K: ProblemKind>(
     Err(ReadBad::Text(TextBad::NoEnd))
 }
 
-// Takes the lines behind the header, up to and with the line `end`.
+// Takes the lines after the header, up to and with the line `end`.
 fn take_body<K: ProblemKind>(
     alloc: Global,
     kind: &K,
@@ -222,7 +222,7 @@ fn take_body<K: ProblemKind>(
     take_lines(alloc, kind, &forms, state, lines)
 }
 
-// The problem, where the line `end` of this number stands behind what was given.
+// The problem, where the line `end` of this number stands after what was given.
 fn finish<K: ProblemKind>(
     alloc: Global,
     kind: &K,
@@ -242,8 +242,8 @@ fn finish<K: ProblemKind>(
 /// Reads a text of a kind, up to and with its line `end`: its problem, or the first line that is
 /// refused, and why.
 ///
-/// The reader of lines is left behind the line that decided: the line `end`, or the one that is
-/// refused. Where no line is `end`, it is left behind the last one.
+/// The reader of lines is left after the line that decided: the line `end`, or the one that is
+/// refused. Where no line is `end`, it is left after the last one.
 pub fn read_problem<K: ProblemKind>(
     alloc: Global,
     kind: &K,

@@ -299,7 +299,7 @@ pub fn take_labels(
     Ok(labels)
 }
 
-/// A line of a count from `least` on, as `k K`, of no more than bytes stand behind it: so what is read for each of what is
+/// A line of a count from `least` on, as `k K`, of no more than bytes stand after it: so what is read for each of what is
 /// counted takes no more memory than the text.
 pub fn take_count(text: &mut Exact<'_>, word: &[u8], least: usize) -> Result<usize, AnswerBad>
     ensures taken { IfOk result (λ count. text.old ≡ row_line word.now (count ∷ []) [] ++ text.new) }

@@ -62,7 +62,7 @@ least_right net points cuts h i low =
     h.least i low (point_at net points (i + 1)) (point_is_parameter net points cuts h.division (i + 1) (omega (arith, low)))
     (omega (arith, ints, rise)) (at_most_reflexive (point_at net points (i + 1)))
 
--- the parameter at which it is the smallest least cut is not behind the part in a rising network
+-- the parameter at which it is the smallest least cut is not after the part in a rising network
 not_behind : (net : Network) (points : List Fraction) (cuts : List (List Bool)) → IsMonotone net → HasLeastParts net points cuts → (i : ℕ) → i < length cuts →
     (s : IsSmallestSomewhere net (cut_at cuts i)) → IsBelow (point_at net points (i + 1)) s.at → ⊥
 not_behind net points cuts m h i low s less =

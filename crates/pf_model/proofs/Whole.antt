@@ -18,7 +18,7 @@ use Rattle.pf_model.proofs.Lowest.{same_fraction}
 use Rattle.pf_model.proofs.Mirror.{monotone_turned}
 use Rattle.pf_model.proofs.Turned.{curve_turned}
 
--- from a point that is not behind x to the high end
+-- from a point that is not after x to the high end
 covered_from : (net : Network) (points : List Fraction) (cuts : List (List Bool)) (x : Fraction) → IsMonotone net → IsCurve net points cuts →
     IsInInterval net x → (k i : ℕ) → i + k ≡ length cuts → 0 < k → IsAtMost (point_at net points i) x → IsCovered net points cuts x
 covered_from net points cuts x m c h zero i e some after = absurd (omega (arith, some))

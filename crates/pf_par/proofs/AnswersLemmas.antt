@@ -11,12 +11,12 @@ use Rattle.pf_par.specs.Answers.{point_fields, cut_fields, segments_text, flows_
 next : {X : Type 0} (xs : List X) (i : ℕ) (other : X) → i < length xs → drop i xs ≡ get_or xs i other ∷ drop (i + 1) xs
 next xs i other low = rw add-one (drop-cons xs i other low)
 
--- flow j and those behind it
+-- flow j and those after it
 pub flows_text_at : (j : ℕ) (flows : List (List ℤ)) → j < length flows
     → flows_text j (drop j flows) ≡ line (codes "f" ∷ decimal j ∷ map signed_decimal (get_or flows j [])) ++ flows_text (j + 1) (drop (j + 1) flows)
 flows_text_at j flows low = ap (flows_text j) (next flows j [] low)
 
--- segment i, numbered from 1, and those behind it
+-- segment i, numbered from 1, and those after it
 pub segments_text_at : (net : Network) (i : ℕ) (sides : List (List Bool)) (points : List Fraction) (flows : List (List ℤ)) (other : Fraction)
     → i < length sides → i + 1 < length points → i + 1 < length flows
     → segments_text net (i + 1) (drop i sides) (drop (i + 1) points) (drop (i + 1) flows)

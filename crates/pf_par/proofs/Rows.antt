@@ -47,7 +47,7 @@ two_is_read_otherwise : problem_of par (text (map (λ line. line ++ 13 ∷ []) (
 unfolding text raw_lines fields lines_from natural_of whole_of header step end_line problem_of par lowest
 two_is_read_otherwise = refl
 
--- tabs, spaces in front and behind, minus signs before zeros, an interval that is not in lowest terms
+-- tabs, spaces in front and after, minus signs before zeros, an interval that is not in lowest terms
 two_is_read_with_blanks : problem_of par (text (codes "p par 03 02" ∷ codes "i -0 5 20 2" ∷ (9 ∷ codes " n  1 s ") ∷ codes "n 3 t" ∷ codes "a 1 2 -000 1" ∷ codes "c a 2 3 9 0" ∷ codes "a 2 3 4 0" ∷ codes "end" ∷ codes "o at" ∷ []))
     ≡ Ok (record { problem = two; rest = text (codes "o at" ∷ []); line = 8 })
 unfolding text raw_lines fields lines_from natural_of whole_of header step end_line problem_of par lowest
@@ -197,7 +197,7 @@ rises_in_falling : problem_of par (text (codes "p par 3 2" ∷ codes "i 0 1 10 1
 unfolding text raw_lines fields lines_from natural_of whole_of header step end_line problem_of par lowest
 rises_in_falling = refl
 
--- a sense behind an arc, a second one, and another word
+-- a sense after an arc, a second one, and another word
 sense_behind_arcs : problem_of par (text (codes "p par 3 2" ∷ codes "i 0 1 10 1" ∷ codes "n 1 s" ∷ codes "n 3 t" ∷ codes "a 1 2 10 0" ∷ codes "a 2 3 4 0" ∷ codes "d falling" ∷ codes "end" ∷ []))
     ≡ Err (Rule 7 Repeated)
 unfolding text raw_lines fields lines_from natural_of whole_of header step end_line problem_of par lowest

@@ -11,40 +11,10 @@ use Rattle.pf_model.specs.Network.{Network, IsNetworkCut}
 use Rattle.pf_model.specs.Answer.{Point, IsWithinSize, IsFractionShape, IsFlowShape, IsPointShape}
 use Rattle.pf_text.specs.Spelling.{line}
 use Rattle.pf_par.specs.Answers.{point_fields, cut_fields, point_text}
-use Rattle.pf_text.proofs.NumbersLemmas.{one_number}
+use Rattle.pf_text.proofs.SameParts.{same_fraction, same_numbers}
 use Rattle.pf_text.proofs.TextLines.{ArePlain, lines_text, same_lines, signed_plain, numbers_plain, side_plain, same_side}
 
 -- ---- parts
-
-within_digits : (bound : ℕ) (x : ℤ) → bound ≤ 2 ^ 119 → IsWithinSize bound x → nat_abs x < 10 ^ 64
-within_digits bound x most size =
-    let low = size.low in
-    let high = size.high in
-    omega (arith, ints, low, high)
-
-abbrev fraction_of : ℤ → ℤ → Fraction
-fraction_of p q = record { p = p; q = q }
-
-of_parts : (p p' q q' : ℤ) → p ≡ p' → q ≡ q' → fraction_of p q ≡ fraction_of p' q'
-of_parts p p' q q' e f = cc
-
-pub same_fraction : (x y : Fraction) → IsFractionShape x → IsFractionShape y → signed_decimal x.p ≡ signed_decimal y.p → signed_decimal x.q ≡ signed_decimal y.q → x ≡ y
-same_fraction x y shape shape' p q =
-    let size : (z : Fraction) → IsFractionShape z → (nat_abs z.p < 10 ^ 64) × (nat_abs z.q < 10 ^ 64) = λ z s. (let a = s.bounds.p_low in let b = s.bounds.p_high in omega (arith, ints, a, b), let c = s.bounds.parameter in let d = s.bounds.q_high in omega (arith, ints, c, d)) in
-    let same_p = one_number x.p y.p (size x shape).0 (size y shape').0 p in
-    let same_q = one_number x.q y.q (size x shape).1 (size y shape').1 q in
-    of_parts x.p y.p x.q y.q same_p same_q
-
-same_numbers : (a b : List ℤ) → AllByRecursion (IsWithinSize (2 ^ 104)) a → AllByRecursion (IsWithinSize (2 ^ 104)) b → map signed_decimal a ≡ map signed_decimal b → a ≡ b
-same_numbers [] [] sa sb e = refl
-same_numbers [] (y ∷ b) sa sb e = absurd cc
-same_numbers (x ∷ a) [] sa sb e = absurd cc
-same_numbers (x ∷ a) (y ∷ b) sa sb e =
-    let first : signed_decimal x ≡ signed_decimal y = cc in
-    let later : map signed_decimal a ≡ map signed_decimal b = cc in
-    let here = one_number x y (within_digits (2 ^ 104) x (omega arith) sa.0) (within_digits (2 ^ 104) y (omega arith) sb.0) first in
-    let back = same_numbers a b sa.1 sb.1 later in
-    cc
 
 pub same_flow : (net : Network) (a b : List ℤ) → IsFlowShape net a → IsFlowShape net b → map signed_decimal a ≡ map signed_decimal b → a ≡ b
 same_flow net a b sa sb e = same_numbers a b (recursion_from_All (IsWithinSize (2 ^ 104)) a sa.each) (recursion_from_All (IsWithinSize (2 ^ 104)) b sb.each) e

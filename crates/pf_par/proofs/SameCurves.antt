@@ -11,9 +11,10 @@ use Rattle.pf_model.specs.Answer.{Curve, IsFractionShape, IsFlowShape, IsCurveSh
 use Rattle.pf_text.specs.Spelling.{line}
 use Rattle.pf_par.specs.Answers.{point_fields, cut_fields, segments_text, flows_text, curve_text}
 use Rattle.pf_text.proofs.TextLines.{ArePlain, lines_text, lines_text-append, same_lines, decimal_plain, numbers_plain, same_side}
-use Rattle.pf_par.proofs.SameAnswers.{same_fraction, same_flow, some_node, point_plain, cut_plain, field_at, mark, all_plain, end_plain}
+use Rattle.pf_text.proofs.SameParts.{same_fraction}
+use Rattle.pf_par.proofs.SameAnswers.{same_flow, some_node, point_plain, cut_plain, field_at, mark, all_plain, end_plain}
 
--- a cut, the point behind it, and the flow there
+-- a cut, the point after it, and the flow there
 record Segment : Type 0 where
   pub side : List Bool
   pub at : Fraction

@@ -22,11 +22,11 @@ outline_by points cuts values = record { points = points; cuts = cuts; values = 
 abbrev lists_of : List Segment → Outline
 lists_of segments = outline_by (map (λ (s : Segment). s.point.at) segments) (map (λ (s : Segment). s.side) segments) (map (λ (s : Segment). s.point.value) segments)
 
--- these lists behind a point
+-- these lists after a point
 abbrev pub behind_point : Valued → Outline → Outline
 behind_point first o = outline_by (first.at ∷ o.points) o.cuts (first.value ∷ o.values)
 
--- these lists, and a segment behind them
+-- these lists, and a segment after them
 abbrev pub with_segment : Segment → Outline → Outline
 with_segment s o = outline_by (o.points ++ s.point.at ∷ []) (o.cuts ++ s.side ∷ []) (o.values ++ s.point.value ∷ [])
 
@@ -118,7 +118,7 @@ pub record HasPoints (net : Network) (count : ℕ) (old now : List ℕ) (i : ℕ
   pub taken : HasTaken (segment_items net) count behind now i segments
 
 module _ (net : Network) (count : ℕ) (old now : List ℕ) (i : ℕ) (o : Outline) (got : HasPoints net count old now i o) where
-  -- the segments of an outline whose text stands there stand behind the first point
+  -- the segments of an outline whose text stands there stand after the first point
   pub stands : (rest : List ℕ) (whole : Outline) (s : IsSplit net count old rest whole) → Stand (segment_items net) count got.behind s.segments rest
   stands rest whole s = record { full = s.full; each = s.each; behind = tt; text = (got.only s.first (segment_lines net 0 s.segments ++ rest) s.shape s.text).1 }
 

@@ -21,13 +21,13 @@ sized net flow shape =
       high = λ i lt. (shape.each i (pos 0) (rw full lt)).high;
     }
 
--- the first point, and the segments behind it
+-- the first point, and the segments after it
 pub points_text_is : (net : Network) (sides : List (List Bool)) (points : List Fraction) (flows : List (List ℤ)) (other : Fraction) → 0 < length points → 0 < length flows
     → line (codes "b" ∷ decimal 0 ∷ point_fields net (get_or points 0 other) (get_or flows 0 [])) ++ segments_text net 1 sides (drop 1 points) (drop 1 flows) ≡ points_text net sides points flows
 points_text_is net sides [] flows other some filled = absurd (omega arith)
 points_text_is net sides (at ∷ points) [] other some filled = absurd (omega arith)
 points_text_is net sides (at ∷ points) (flow ∷ flows) other some filled = refl
 
--- behind the last cut stands nothing
+-- after the last cut stands nothing
 pub segments_text-end : (net : Network) (i : ℕ) (sides : List (List Bool)) (points : List Fraction) (flows : List (List ℤ)) → segments_text net i (drop (length sides) sides) points flows ≡ []
 segments_text-end net i sides points flows = rw (drop_all (length sides) sides (omega arith)) refl

@@ -1,4 +1,4 @@
--- What the lines of points and cuts of a curve's text say: the values of the flows stand there, and the flows behind them.
+-- What the lines of points and cuts of a curve's text say: the values of the flows stand there, and the flows after them.
 use Rattle.std.specs.Prelude.{◌≡◌, ℕ, ◌+◌, ◌<◌, ◌^◌, ℤ, Bool, List, [], ◌∷◌, ◌++◌, length, map, All, codes}
 use Rattle.std.specs.Fmt.{decimal, signed_decimal}
 use Rattle.pf_model.specs.Fraction.{Fraction}
@@ -15,13 +15,13 @@ use Rattle.pf_par.specs.declared.outline.Segment.{Segment}
 abbrev pub value_fields : Fraction → ℤ → List (List ℕ)
 value_fields at value = signed_decimal at.p ∷ signed_decimal at.q ∷ signed_decimal value ∷ []
 
--- each cut, and the point behind it
+-- each cut, and the point after it
 abbrev pub segments_outline : Network → ℕ → List (List Bool) → List Fraction → List ℤ → List ℕ
 segments_outline net i (side ∷ sides) (at ∷ points) (value ∷ values) =
     line (codes "s" ∷ decimal i ∷ cut_fields net side) ++ line (codes "b" ∷ decimal i ∷ value_fields at value) ++ segments_outline net (i + 1) sides points values
 segments_outline net i sides points values = []
 
--- the first point, and the segments behind it
+-- the first point, and the segments after it
 abbrev pub points_outline : Network → List (List Bool) → List Fraction → List ℤ → List ℕ
 points_outline net sides (at ∷ points) (value ∷ values) = line (codes "b" ∷ decimal 0 ∷ value_fields at value) ++ segments_outline net 1 sides points values
 points_outline net sides points values = []
@@ -51,11 +51,11 @@ point_line i point = valued_line (codes "b") (i ∷ []) point
 abbrev pub cut_line : Network → ℕ → List Bool → List ℕ
 cut_line net i side = line (codes "s" ∷ decimal i ∷ cut_fields net side)
 
--- the line of cut i, and that of the point behind it
+-- the line of cut i, and that of the point after it
 abbrev pub segment_text : Network → ℕ → Segment → List ℕ
 segment_text net i segment = cut_line net i segment.side ++ point_line i segment.point
 
--- a cut, and the point behind it
+-- a cut, and the point after it
 pub record IsSegmentShape (net : Network) (segment : Segment) : Type 0 where
   pub cut : IsNetworkCut net segment.side
   pub point : IsValued segment.point

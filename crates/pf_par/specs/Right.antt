@@ -34,6 +34,6 @@ pub record IsCertifiedCurve (net : Network) (text : List ℕ) : Type 0 where
   pub certificate : CertifiesCurve net curve.points curve.cuts curve.flows
   pub text_is : text ≡ curve_text net curve
 
--- `check curve`: whether the text behind the problem is that of a certified curve
+-- `check curve`: whether the text after the problem is that of a certified curve
 abbrev pub IsRightCheck : Network → List ℕ → List ℕ → Type 0
 IsRightCheck net rest text = IsRightVerdict (IsCertifiedCurve net rest) text

@@ -61,7 +61,7 @@ pub enum End {
     Sink,
 }
 
-/// The numbers of the header, and what the lines behind it have given so far.
+/// The numbers of the header, and what the lines after it have given so far.
 #[derive(Drop)]
 pub struct ParState {
     pub nodes: u32,
@@ -74,7 +74,7 @@ pub struct ParState {
 }
 
 impl ParState {
-    /// Nothing behind a header of these numbers.
+    /// Nothing after a header of these numbers.
     pub fn new(alloc: Global, nodes: u32, arc_count: usize) -> ParState
         ensures header { header_of result ≡ pos nodes ∷ pos arc_count ∷ [] }
         ensures given { given_of result ≡ nothing_given }

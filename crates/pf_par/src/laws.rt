@@ -16,7 +16,7 @@ pub fn texts_determine_answers()
     ensures curve { CurveFromText }
 {}
 
-/// For each text behind a network there is one right verdict.
+/// For each text after a network there is one right verdict.
 pub fn verdict_is_unique()
     ensures { VerdictIsUnique }
 {}

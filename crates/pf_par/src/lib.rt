@@ -2,7 +2,7 @@
 //! The text of a curve is also read back.
 //!
 //! Proved: `read_par` gives exactly the network of the definition, or exactly its first refusal,
-//! and leaves the reader of lines behind the line that decided. `write_at` and `write_curve` print
+//! and leaves the reader of lines after the line that decided. `write_at` and `write_curve` print
 //! exactly the text of the definition, fail only where the sink failed, and take no memory.
 //! `read_curve` gives the one curve of the right shape whose text the bytes are, or that there is none, and
 //! `is_certified_text` whether that curve is certified.

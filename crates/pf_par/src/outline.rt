@@ -24,7 +24,7 @@ pub struct Outline {
     pub values: Numbers,
 }
 
-/// A cut, and the point behind it.
+/// A cut, and the point after it.
 #[derive(Drop)]
 pub struct Segment {
     side: Side,
@@ -82,7 +82,7 @@ fn take_cut_line(
     Ok(side)
 }
 
-// The line of cut `i`, and that of the point behind it.
+// The line of cut `i`, and that of the point after it.
 fn take_segment(
     alloc: Global,
     net: &Net,
@@ -125,7 +125,7 @@ fn begin(alloc: Global, point: Valued) -> Result<Outline, AnswerBad>
     })
 }
 
-// Adds the cut, and the point behind it.
+// Adds the cut, and the point after it.
 fn add_segment(outline: &mut Outline, segment: Segment) -> Result<(), AnswerBad>
     ensures added { IfOk result (λ _. outline.new ≡ record {
       points = outline.old.points ++ segment.point.at ∷ [];
@@ -142,7 +142,7 @@ fn add_segment(outline: &mut Outline, segment: Segment) -> Result<(), AnswerBad>
     Ok(())
 }
 
-// So many cuts, with the points before, between and behind them.
+// So many cuts, with the points before, between and after them.
 fn take_points(
     alloc: Global,
     net: &Net,

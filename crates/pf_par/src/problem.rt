@@ -102,8 +102,8 @@ impl ProblemKind for Par {
 /// Reads a text of the kind `par`, up to and with its line `end`: its network, or the first line
 /// that is refused, and why.
 ///
-/// The reader of lines is left behind the line that decided: the line `end`, or the one that is
-/// refused. Where no line is `end`, it is left behind the last one.
+/// The reader of lines is left after the line that decided: the line `end`, or the one that is
+/// refused. Where no line is `end`, it is left after the last one.
 pub fn read_par(alloc: Global, lines: &mut Lines<'_>) -> Result<Net, ReadBad>
     ensures judged { Agrees (problem_of_lines par (lines_left lines.old))
         (λ net. record { problem = net; rest = lines.new.rest; line = lines.new.number }) result }

@@ -73,7 +73,7 @@ pub fn read_curve(alloc: Global, net: &Net, text: &[u8]) -> Result<Curve, Answer
     ensures text { IfOk result (λ c. text.now ≡ curve_text net.now c) }
     ensures refused { result ≡ Err AnswerBad.NotText → (c : Curve) → IsCurveShape net.now c → text.now ≢ curve_text net.now c }
 {
-    // It tells that the network is within its limits.
+    // Gives the proof that the network is within its limits.
     let _ = net.frame();
     let mut rest = Exact::new(text);
     let Parts { outline, flows } = take_parts(alloc, net, &mut rest)?;

@@ -77,7 +77,7 @@ pub fn write_at<K: Sink>(out: &mut Printer<'_, K>, net: &Net, point: &Point) -> 
     print_answer(out, net, point.at(), side, flow)
 }
 
-// The lines of cut `i`, numbered from 1, and of the point behind it.
+// The lines of cut `i`, numbered from 1, and of the point after it.
 fn print_segment<K: Sink>(
     out: &mut Printer<'_, K>,
     net: &Net,
@@ -95,7 +95,7 @@ fn print_segment<K: Sink>(
     print_point(out, net, &[i], at, flow)
 }
 
-// Each cut, and the point behind it.
+// Each cut, and the point after it.
 fn print_segments<K: Sink>(out: &mut Printer<'_, K>, net: &Net, curve: &Curve) -> Result<(), Failed>
     requires usable { is_spent out.old ≡ false }
     requires shape { IsWritable net.now curve.now }
@@ -109,7 +109,7 @@ fn print_segments<K: Sink>(out: &mut Printer<'_, K>, net: &Net, curve: &Curve) -
     Ok(())
 }
 
-// The first point, and the segments behind it.
+// The first point, and the segments after it.
 fn print_points<K: Sink>(out: &mut Printer<'_, K>, net: &Net, curve: &Curve) -> Result<(), Failed>
     requires usable { is_spent out.old ≡ false }
     requires shape { IsWritable net.now curve.now }

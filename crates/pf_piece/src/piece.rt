@@ -61,7 +61,7 @@ impl<'a> Piece<'a> {
         requires { AreNested net.now small.now large.now }
         ensures { IfOk result (λ p. p ≡ record { net = net.now; small = small.now; large = large.now }) }
     {
-        // It tells that the network is one.
+        // Gives the proof what every network keeps.
         let _ = net.frame().nodes();
         let (places, nodes) = places_of(alloc, net, small, large)?;
         let kept = kept_of(alloc, net, places.as_slice())?;

@@ -45,7 +45,7 @@ fn all_agree(
     requires caps { length caps.old ≡ length net.now.arcs }
     requires plain { length plain.old ≡ length net.now.arcs }
 {
-    // It tells that the network is one.
+    // Gives the proof what every network keeps.
     let _ = net.frame().nodes();
     let points = curve.points();
     'points: for i in 0..points.len() {

@@ -4,6 +4,7 @@ use Rattle.std.specs.Prelude.{ℤ, ◌+ℤ◌, ◌-ℤ◌, ◌≤ℤ◌, ◌<ℤ
 use Rattle.std.proofs.lemmas.Int.{ints}
 use Rattle.std.proofs.lemmas.Bool.{cases_eq, eq-eqb, ne_eqb, eqb-true}
 use Rattle.std.proofs.lemmas.List.{length-set, get_or-set_same, get_or-set_other}
+use Rattle.pf_model.proofs.Augment.{within_set}
 use Rattle.pf_model.specs.Cut.{FlowNetwork, at_arc, tail_at, head_at}
 use Rattle.pf_model.specs.Flow.{IsWithin, sum_out, sum_in}
 use Rattle.pf_model.specs.Residual.{IsResidual, HasValidLabels}
@@ -25,21 +26,6 @@ at_set numbers i k y low = elim (cases_eq k i) [
       let f = ap (λ b. cond b y (at_arc numbers k)) (ne_eqb k i other) in
       e ∙ sym f
 ]
-
-within_set : (g : FlowNetwork) (now : List ℤ) (i : ℕ) (y : ℤ) → IsWithin g now → i < length g.ends → pos 0 ≤ℤ y → y ≤ℤ at_arc g.capacities i → IsWithin g (set now i y)
-within_set g now i y w low a b =
-    let there : i < length now = omega (arith, w.full) in
-    record {
-      full = length-set now i y ∙ w.full;
-      low = λ k h. elim (cases_eq k i) [
-        | inl same ↦ let e : at_arc (set now i y) k ≡ y = rw (same, get_or-set_same) refl in omega (arith, ints, e, a)
-        | inr other ↦ let e : at_arc (set now i y) k ≡ at_arc now k = let ne : k ≢ i = other in rw get_or-set_other refl in let f = w.low k h in omega (arith, ints, e, f)
-      ];
-      high = λ k h. elim (cases_eq k i) [
-        | inl same ↦ let e : at_arc (set now i y) k ≡ y = rw (same, get_or-set_same) refl in rw (e, same) b
-        | inr other ↦ let e : at_arc (set now i y) k ≡ at_arc now k = let ne : k ≢ i = other in rw get_or-set_other refl in let f = w.high k h in omega (arith, ints, e, f)
-      ];
-    }
 
 pushed_within : (g : FlowNetwork) (flow excess : List ℤ) (v i : ℕ) (back : Bool) (amount : ℤ) → IsWithin g flow → i < length g.ends →
     CanPush g flow excess v i back amount → IsWithin g (pushed_flow flow i back amount)

@@ -60,7 +60,7 @@ pub fn is_residual(caps: &[i128], flow: &[i128], i: u32, back: bool) -> bool
     if back { 0 < flow[i] } else { flow[i] < caps[i] }
 }
 
-// The first admissible arc of `v` in one direction that stands at this place or behind it. Labels take far less memory than
+// The first admissible arc of `v` in one direction that stands at this place or after it. Labels take far less memory than
 // flows, and decide for most arcs: so they are looked at first.
 fn admissible_in(
     net: Network<'_>,
@@ -96,7 +96,7 @@ fn admissible_in(
     None
 }
 
-/// The first admissible arc of `v` that stands at this place or behind it.
+/// The first admissible arc of `v` that stands at this place or after it.
 pub fn next_admissible(
     net: Network<'_>,
     flow: &[i128],

@@ -1,4 +1,4 @@
--- The lines of a principal partition's text, one behind the other.
+-- The lines of a principal partition's text, one after the other.
 use Rattle.std.proofs.Common.{◌≡◌, ℕ, ◌+◌, ◌≤◌, List, [], ◌∷◌, ◌++◌, length, refl, append_assoc, arith, ap, sym, ◌∙◌}
 use Rattle.std.specs.Prelude.{ℤ, codes, map}
 use Rattle.std.specs.List.{join_with_byte}
@@ -13,7 +13,7 @@ use Rattle.pf_principal.specs.declared.steps.Step.{Step}
 use Rattle.pf_principal.specs.declared.text.Parts.{Parts}
 use Rattle.pf_principal.proofs.Shapes.{parts_with, parts_of, text_of_parts}
 
--- what stands behind the tables, behind the steps, behind the first partition, and behind the count
+-- what stands after the tables, after the steps, after the first partition, and after the count
 abbrev pub last_lines : List ℕ → List ℕ
 last_lines rest = codes "end\n" ++ rest
 
@@ -50,7 +50,7 @@ parts_taken g old a b c d e new count first steps vectors splits one two three f
     ∙ ap (λ (n : ℕ). row_line (codes "k") (n ∷ []) [] ++ first_lines g first steps vectors splits new) (sym same) in
     one ∙ ap (λ (t : List ℕ). codes "o partition\n" ++ t) k ∙ sym (all_lines g (parts_with first steps vectors splits) new)
 
--- ---- as many bytes as levels stand behind the line of their number
+-- ---- as many bytes as levels stand after the line of their number
 
 some_line : (fields : List (List ℕ)) → 1 ≤ length (line fields)
 some_line fields = let both = length-append (join_with_byte 32 fields) (10 ∷ []) in omega (arith, both)

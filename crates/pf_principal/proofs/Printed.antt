@@ -10,11 +10,11 @@ use Rattle.pf_graph.specs.WeightedGraph.{WeightedGraph}
 use Rattle.pf_graph.specs.Best.{partition_at}
 use Rattle.pf_principal.specs.Text.{LevelRows, step_text, step_of, steps_text, steps_of, split_line, splits_text, level_text, levels_text, levels_rows}
 
--- what is left to print behind the first j levels
+-- what is left to print after the first j levels
 abbrev pub steps_left : WeightedGraph → List Fraction → List (List ℕ) → ℕ → List ℕ
 steps_left g levels partitions j = steps_text j (steps_of g (partition_at partitions j) (drop j levels) (drop (j + 1) partitions))
 
--- the next level, and those behind it
+-- the next level, and those after it
 pub steps_text_at : (g : WeightedGraph) (levels : List Fraction) (partitions : List (List ℕ)) (j : ℕ) (x : Fraction) → j < length levels → length partitions ≡ length levels + 1 →
     steps_left g levels partitions j ≡ step_text (j + 1) (step_of g (partition_at partitions j) (get_or levels j x) (partition_at partitions (j + 1))) ++ steps_left g levels partitions (j + 1)
 steps_text_at g levels partitions j x low count =
@@ -35,7 +35,7 @@ split_at j r rows low =
     let next : drop r rows ≡ get_or rows r [] ∷ drop (r + 1) rows = rw add-one (drop-cons rows r [] low) in
     ap (splits_text j r) next
 
--- what is left of the vectors and the splits behind those of the first j levels
+-- what is left of the vectors and the splits after those of the first j levels
 abbrev pub levels_left : ℕ → List (List ℤ) → List (List ℤ) → ℕ → List ℕ
 levels_left n vectors splits j = levels_text j (levels_rows n (drop j vectors) (drop (j * n) splits))
 

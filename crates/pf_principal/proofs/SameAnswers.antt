@@ -12,7 +12,8 @@ use Rattle.pf_text.proofs.TextLines.{ArePlain, lines_text, lines_text-append, sa
 use Rattle.pf_graph.specs.WeightedGraph.{WeightedGraph, digraph_of}
 use Rattle.pf_graph.specs.Limits.{IsWithinLimits}
 use Rattle.pf_graph.specs.Best.{partition_at}
-use Rattle.pf_strength.proofs.SameAnswers.{all_short, same_numbers, all_labels, same_labels, same_fraction, labels_plain}
+use Rattle.pf_text.proofs.SameParts.{same_fraction}
+use Rattle.pf_strength.proofs.SameAnswers.{all_short, same_numbers, all_labels, same_labels, labels_plain}
 use Rattle.pf_principal.specs.Principal.{PrincipalAnswer, IsPrincipalShape, CertifiesPrincipal}
 use Rattle.pf_principal.specs.Text.{LevelRows, level_line, part_line, steps_text, steps_of, vector_line, split_line, splits_text, levels_text, levels_rows, principal_text}
 use Rattle.pf_principal.specs.Reading.{IsStepShape, IsRowsShape}

@@ -59,7 +59,7 @@ all_partitions g a fits = λ i d low.
     let count = fits.count in
     subst (IsPartition g.nodes) (get_or_default a.partitions i [] d low) (fits.partition i (omega (arith, low, count)))
 
--- the partitions behind the first
+-- the partitions after the first
 abbrev pub later_partitions : PrincipalAnswer → List (List ℕ)
 later_partitions a = drop 1 a.partitions
 

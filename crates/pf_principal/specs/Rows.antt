@@ -7,7 +7,7 @@ use Rattle.pf_graph.specs.WeightedGraph.{WeightedGraph, digraph_of}
 use Rattle.pf_graph.specs.Best.{level_at}
 use Rattle.pf_forest.specs.Forest.{IsFilled, AreSplits, AddsSplits}
 
--- the tables have the vector that the forest is filled with at the level, and a split of it for each root, behind the rows that they had
+-- the tables have the vector that the forest is filled with at the level, and a split of it for each root, after the rows that they had
 pub record AddsLevel (g : WeightedGraph) (x : Fraction) (vectors vectors_now splits splits_now : List (List ℤ)) : Type 0 where
   pub vector : List ℤ
   pub labels : List ℕ

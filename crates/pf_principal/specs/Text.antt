@@ -19,16 +19,16 @@ part_line j labels = label_line (codes "s") (j ∷ []) labels
 abbrev pub level_line : ℕ → Valued → List ℕ
 level_line j level = valued_line (codes "b") (j ∷ []) level
 
--- the level j, and the partition behind it
+-- the level j, and the partition after it
 abbrev pub step_text : ℕ → Step → List ℕ
 step_text j step = level_line j step.level ++ part_line j step.partition
 
--- steps behind the first j; texts number levels from 1
+-- steps after the first j; texts number levels from 1
 abbrev pub steps_text : ℕ → List Step → List ℕ
 steps_text j [] = []
 steps_text j (step ∷ steps) = step_text (j + 1) step ++ steps_text (j + 1) steps
 
--- a level, with the value there of the partition before it, and the partition behind it
+-- a level, with the value there of the partition before it, and the partition after it
 abbrev pub step_of : WeightedGraph → List ℕ → Fraction → List ℕ → Step
 step_of g before level labels = record { level = record { at = level; value = partition_value g before level }; partition = labels }
 
@@ -59,7 +59,7 @@ vector_line j vector = row_line (codes "y") (j ∷ []) vector
 abbrev pub level_text : ℕ → LevelRows → List ℕ
 level_text j rows = vector_line j rows.vector ++ splits_text j 0 rows.splits
 
--- those of the levels behind the first j
+-- those of the levels after the first j
 abbrev pub levels_text : ℕ → List LevelRows → List ℕ
 levels_text j [] = []
 levels_text j (rows ∷ later) = level_text (j + 1) rows ++ levels_text (j + 1) later
@@ -71,7 +71,7 @@ levels_rows n (vector ∷ vectors) splits = record { vector = vector; splits = t
 
 -- ---- the whole text
 
--- the text of an answer: the number of levels, the first partition, each level with the partition behind it, and then the vector and the splits of each level
+-- the text of an answer: the number of levels, the first partition, each level with the partition after it, and then the vector and the splits of each level
 unfoldable pub principal_text : WeightedGraph → PrincipalAnswer → List ℕ
 principal_text g a =
     line (codes "o" ∷ codes "partition" ∷ [])

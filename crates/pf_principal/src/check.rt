@@ -137,7 +137,7 @@ pub fn check_principal(graph: &Graph, answer: &Principal, scratch: &mut Scratch)
     ensures principal { OnTrue result (IsPrincipal graph.now answer.now.levels answer.now.partitions) }
     ensures places { KeepsPlaces scratch.old scratch.new }
 {
-    // It tells the limits.
+    // Gives the proof the limits.
     let _ = graph.frame();
     let partitions = answer.parts().get();
     let count = answer.levels().get().len();

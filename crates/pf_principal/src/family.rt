@@ -33,7 +33,7 @@ pub fn line_of(graph: &Graph, partition: &Partition) -> Line
     requires { length partition.now ≡ graph.now.nodes }
     ensures { result ≡ partition_line graph.now partition.now }
 {
-    // It tells the limits.
+    // Gives the proof the limits.
     let _ = graph.frame();
     let crossing = graph.crossing(partition);
     let parts = partition.parts();
@@ -56,7 +56,7 @@ fn find_best(alloc: Global, forest: &mut Forest<'_>, at: &Rat) -> Result<Best, N
     ensures same { forest.new.graph ≡ forest.old.graph }
 {
     forest.fill(at);
-    // It tells what holds of every filled forest.
+    // Gives the proof what holds of every filled forest.
     let _ = forest.vector();
     let partition = copy(alloc, forest.partition())?;
     let line = line_of(forest.graph(), &partition);

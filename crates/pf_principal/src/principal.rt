@@ -60,7 +60,7 @@ impl Principal {
         ensures certified { IfOk result (λ answer. CertifiesPrincipal graph.now answer) }
         ensures principal { IfOk result (λ answer. IsPrincipal graph.now answer.levels answer.partitions) }
     {
-        // It tells the limits.
+        // Gives the proof the limits.
         let _ = graph.frame();
         let forest = Forest::make(alloc, graph)?;
         let low = Rat::new(0, 1);

@@ -22,7 +22,7 @@ pub fn top_level(graph: &Graph, single: &Partition) -> Rat
     requires single { parts single.now ≡ graph.now.nodes }
     ensures { result ≡ level_above graph.now }
 {
-    // It tells the limits.
+    // Gives the proof the limits.
     let _ = graph.frame();
     let total = graph.crossing(single);
     Rat::new(total + 1, 1)

@@ -15,7 +15,7 @@ use pf_lines::{AnswerBad, Exact, Valued, take_valued_row};
 use pf_strength::take_partition;
 use std::alloc::Global;
 
-/// A level with the value that is written of the partition before it, and the partition behind it.
+/// A level with the value that is written of the partition before it, and the partition after it.
 #[derive(Drop)]
 pub struct Step {
     level: Valued,
@@ -25,7 +25,7 @@ pub struct Step {
 /// A list of steps.
 pub type Steps = List<Step>;
 
-// The level `j`, and the partition behind it.
+// The level `j`, and the partition after it.
 fn take_step(
     alloc: Global,
     vertices: u32,
@@ -43,7 +43,7 @@ fn take_step(
     Ok(Step { level, partition })
 }
 
-/// So many levels, each with the partition behind it.
+/// So many levels, each with the partition after it.
 pub fn take_steps(
     alloc: Global,
     vertices: u32,

@@ -20,7 +20,7 @@ use pf_rat::Rat;
 use pf_strength::take_partition;
 use std::alloc::Global;
 
-// The level `j` with the value there of the partition before it, and the partition behind it.
+// The level `j` with the value there of the partition before it, and the partition after it.
 fn print_step<K: Sink>(
     out: &mut Printer<'_, K>,
     graph: &Graph,
@@ -38,7 +38,7 @@ fn print_step<K: Sink>(
     print_labels(out, b"s", &[j], behind.labels())
 }
 
-// Each level, and the partition behind it.
+// Each level, and the partition after it.
 fn print_steps<K: Sink>(
     out: &mut Printer<'_, K>,
     graph: &Graph,
@@ -136,7 +136,7 @@ fn print_principal<K: Sink>(
 }
 
 /// Writes the answer to `partition`: the number of levels, the first partition, each level `p/q` with the value there of the
-/// partition before it in units of `1/q`, and the partition behind it, and then for each level, in units of `1/q`, the vector
+/// partition before it in units of `1/q`, and the partition after it, and then for each level, in units of `1/q`, the vector
 /// and a split for each root, edge by edge. It takes no memory. `Failed` comes only where the sink's count of faults rose, and
 /// leaves the printer spent.
 pub fn write_principal<K: Sink>(
@@ -206,7 +206,7 @@ pub fn read_principal(alloc: Global, graph: &Graph, text: &[u8]) -> Result<Princ
     ensures text { IfOk result (λ answer. text.now ≡ principal_text graph.now answer) }
     ensures refused { result ≡ Err AnswerBad.NotText → (answer : PrincipalAnswer) → IsPrincipalShape graph.now answer → text.now ≢ principal_text graph.now answer }
 {
-    // It tells the limits.
+    // Gives the proof the limits.
     let _ = graph.vertices();
     let mut rest = Exact::new(text);
     let Parts {

@@ -1,4 +1,4 @@
--- The lines of an answer's text, one behind the other.
+-- The lines of an answer's text, one after the other.
 use Rattle.std.proofs.Common.{◌≡◌, ℕ, ◌^◌, List, [], ◌∷◌, ◌++◌, get_or, refl, append_assoc, arith, ap, sym, ◌∙◌}
 use Rattle.std.specs.Prelude.{ℤ, pos, negsuc, codes, Bool, All}
 use Rattle.std.proofs.lemmas.Int.{ints}
@@ -12,11 +12,11 @@ use Rattle.pf_ratio.specs.Answer.{IsAnswerShape, answer_text}
 abbrev pub answer_of : Fraction → List Bool → List ℤ → Answer
 answer_of x set numbers = record { ratio = x; chosen = set; numbers = numbers }
 
--- the first line, and what stands behind it
+-- the first line, and what stands after it
 pub name_line : (name rest : List ℕ) → line (codes "o" ∷ name ∷ []) ++ rest ≡ codes "o " ++ (name ++ (10 ∷ rest))
 name_line name rest = ap (λ (t : List ℕ). codes "o " ++ t) (append_assoc name (10 ∷ []) rest)
 
--- what stands behind the first line, behind the fraction, behind the set, and behind the numbers
+-- what stands after the first line, after the fraction, after the set, and after the numbers
 abbrev pub last_lines : List ℕ → List ℕ
 last_lines rest = line (codes "end" ∷ []) ++ rest
 

@@ -21,7 +21,7 @@ threshold_pieces j price labels =
     ap (λ (rest : List ℕ). head_text (codes "t") (j ∷ []) ++ ((32 ∷ signed_decimal price) ++ rest)) (sym (line_is [] (map decimal labels)))
     ∙ head_then (codes "t") (j ∷ []) (signed_decimal price ∷ map decimal labels)
 
--- the next threshold, and those behind it
+-- the next threshold, and those after it
 pub thresholds_text_at : (prices : List ℤ) (partitions : List (List ℕ)) (j : ℕ) → j < length prices → length partitions ≡ length prices →
     thresholds_text j (drop j prices) (drop j partitions)
     ≡ threshold_line (j + 1) (at_arc prices j) (partition_at partitions j) ++ thresholds_text (j + 1) (drop (j + 1) prices) (drop (j + 1) partitions)

@@ -12,7 +12,7 @@ use Rattle.pf_reinforce.specs.Reinforcement.{AddedAnswer}
 abbrev pub threshold_line : ℕ → ℤ → List ℕ → List ℕ
 threshold_line j price labels = line (head (codes "t") (j ∷ []) ++ (signed_decimal price ∷ map decimal labels))
 
--- the thresholds, each with its partition, behind so many others; texts number them from 1
+-- the thresholds, each with its partition, after so many others; texts number them from 1
 abbrev pub thresholds_text : ℕ → List ℤ → List (List ℕ) → List ℕ
 thresholds_text j [] partitions = []
 thresholds_text j (price ∷ prices) [] = []

@@ -48,7 +48,7 @@ pub(crate) fn cost_of(graph: &Graph, added: &[i128]) -> i128
     requires { AreSmall graph.now added.now }
     ensures { result ≡ cost_of_added graph.now.prices added.now }
 {
-    // It tells the limits.
+    // Gives the proof the limits.
     let _ = graph.frame();
     let mut sum: i128 = 0;
     'edges: for i in 0..graph.edges() {

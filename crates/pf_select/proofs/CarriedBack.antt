@@ -95,7 +95,7 @@ whole_capacity p x problem =
     let none : x.p *ℤ pos 0 ≡ pos 0 = omega (arith, ints) in
     omega (arith, ints, e, a, b, none)
 
--- what holds of one cut of the curve, at the point behind it
+-- what holds of one cut of the curve, at the point after it
 record IsCutHere (p : SelectionProblem) (x : Fraction) (flow : List ℤ) (side : List Bool) : Type 0 where
   pub parameter : IsParameter x
   pub flow_is : IsFlow (network_at (select_net p) x) flow

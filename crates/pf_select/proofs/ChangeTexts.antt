@@ -16,7 +16,7 @@ use Rattle.pf_select.proofs.WorthSizes.{worth_size}
 abbrev change_of : SelectionProblem → Fraction → List Bool → List Bool → Change
 change_of p price before set = record { point = record { at = price; value = worth p price before }; set = set }
 
--- the prices with what the selections before them are worth, and the selections behind them
+-- the prices with what the selections before them are worth, and the selections after them
 abbrev pub changes_of : SelectionProblem → List Bool → List Fraction → List (List Bool) → List Change
 changes_of p before (price ∷ prices) (set ∷ selections) = change_of p price before set ∷ changes_of p set prices selections
 changes_of p before prices selections = []
@@ -108,7 +108,7 @@ changes_bytes j (change ∷ changes) =
     let more = changes_bytes (j + 1) changes in
     omega (arith, length-append front later, some, more)
 
--- the change at price j + 1, and those behind it
+-- the change at price j + 1, and those after it
 next : {X : Type 0} (xs : List X) (i : ℕ) (other : X) → i < length xs → drop i xs ≡ get_or xs i other ∷ drop (i + 1) xs
 next xs i other low = rw add-one (drop-cons xs i other low)
 

@@ -58,7 +58,7 @@ shape_of_rows p width rows e each = λ i d low. let s = each i d low in record {
 next : (rows : List (List ℤ)) (j : ℕ) → j < length rows → drop j rows ≡ row_at rows j ∷ drop (j + 1) rows
 next rows j low = rw add-one (drop-cons rows j [] low)
 
--- row j, and those behind it
+-- row j, and those after it
 pub charges_text_at : (j : ℕ) (rows : List (List ℤ)) → j < length rows →
     charges_text j (drop j rows) ≡ charge_line (j + 1) (row_at rows j) ++ charges_text (j + 1) (drop (j + 1) rows)
 charges_text_at j rows low = ap (charges_text j) (next rows j low)

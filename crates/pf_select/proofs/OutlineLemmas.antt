@@ -110,7 +110,7 @@ outline_more width count old now new j o o' change got low added taken is found 
   taken = item_taken (change_items width) count got.behind now new j got.changes change got.taken low taken is (λ other rest shape ok e. found other rest shape e);
 }
 
--- what stands behind the first selection
+-- what stands after the first selection
 behind_first : (width count : ℕ) (old now : List ℕ) (j : ℕ) (o : Outline) (got : HasGot width count old now j o) (first : List Bool) (changes : List Change)
     (rest : List ℕ) → length first ≡ width → old ≡ outline_text first changes ++ rest → (got.first ≡ first) × (got.behind ≡ all_changes 0 changes ++ rest)
 behind_first width count old now j o got first changes rest full there =

@@ -10,7 +10,7 @@ use Rattle.pf_model.specs.Answer.{IsWithinSize, IsFractionShape}
 use Rattle.pf_text.specs.Spelling.{line, side_line, side_text, head_text}
 use Rattle.pf_text.proofs.TextLines.{ArePlain, same_line, decimal_plain, signed_plain, numbers_plain, same_side}
 use Rattle.pf_lines.proofs.RowsTaken.{line_rest, side_parts}
-use Rattle.pf_ratio.proofs.SameAnswers.{same_fraction, same_numbers}
+use Rattle.pf_text.proofs.SameParts.{same_fraction, same_numbers}
 use Rattle.pf_select.specs.Problem.{SelectionProblem, IsBoundedProblem}
 use Rattle.pf_select.specs.Certificate.{ScheduleAnswer, CertifiesSchedule}
 use Rattle.pf_select.specs.Text.{changes_text, selections_text, charges_text, schedule_text}

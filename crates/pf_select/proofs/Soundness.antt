@@ -134,7 +134,7 @@ no_climb a b low x pl px h at_low at_x =
     omega (arith, ints, e, f, g, none x.q, none low.q)))
     (λ fine. fine)
 
--- a line that is not below 0 at a parameter and not above 0 at a greater one is not above 0 behind that
+-- a line that is not below 0 at a parameter and not above 0 at a greater one is not above 0 after that
 line_stays_low : (a b : ℤ) (low x high : Fraction) → IsParameter low → IsParameter x → IsParameter high → IsBelow low x → IsAtMost x high →
     pos 0 ≤ℤ ((a *ℤ low.q) +ℤ (b *ℤ low.p)) → ((a *ℤ x.q) +ℤ (b *ℤ x.p)) ≤ℤ pos 0 → ((a *ℤ high.q) +ℤ (b *ℤ high.p)) ≤ℤ pos 0
 line_stays_low a b low x high pl px ph h k at_low at_x =
@@ -247,7 +247,7 @@ free_smallest p set problem full h back = record {
       rw need.part at (gained_holds p.needs other (product_at p need.need) gained need.need need.there refl);
 }
 
--- behind the last price
+-- after the last price
 
 pub greatest_behind : (p : SelectionProblem) (low x : Fraction) (set : List Bool) → IsSelectionProblem p → IsParameter low → IsParameter x → IsBelow low x →
     ((i : ℕ) → i < length p.costs → has set i ≡ false) → IsBest p low set → IsGreatestBest p x set

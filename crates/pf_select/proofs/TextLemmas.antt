@@ -1,4 +1,4 @@
--- The parts of a schedule's text, one behind the other.
+-- The parts of a schedule's text, one after the other.
 use Rattle.std.proofs.Common.{◌≡◌, ℕ, suc, ◌≤◌, List, [], ◌∷◌, ◌++◌, length, Bool, append_assoc, arith, ap, sym, ◌∙◌, length-append}
 use Rattle.std.specs.Prelude.{ℤ, All, codes}
 use Rattle.pf_model.specs.Fraction.{Fraction}
@@ -17,7 +17,7 @@ pub same_answer : (prices prices' : List Fraction) (selections selections' : Lis
     selections ≡ selections' → charges ≡ charges' → answer_of prices selections charges ≡ answer_of prices' selections' charges'
 same_answer prices prices' selections selections' charges charges' e f g = cc
 
--- what stands behind the first line, behind the number of prices, behind the selections, and behind the charges
+-- what stands after the first line, after the number of prices, after the selections, and after the charges
 abbrev pub last_lines : List ℕ → List ℕ
 last_lines rest = line (codes "end" ∷ []) ++ rest
 

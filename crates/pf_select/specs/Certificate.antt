@@ -4,7 +4,7 @@ use Rattle.pf_model.specs.Fraction.{Fraction, IsParameter, IsBelow}
 use Rattle.pf_model.specs.Cut.{has, at_arc, IsContained, sum_where}
 use Rattle.pf_select.specs.Problem.{SelectionProblem, product_at, part_at, worth, price_at, selection_at, IsProperPart}
 
--- prices, a selection up to each and one behind the last, and for each price a charge on each need, in units of 1/q of the price
+-- prices, a selection up to each and one after the last, and for each price a charge on each need, in units of 1/q of the price
 pub record ScheduleAnswer : Type 0 where
   pub prices : List Fraction
   pub selections : List (List Bool)
@@ -59,7 +59,7 @@ abbrev pub charges_at : List (List ℤ) → ℕ → List ℤ
 charges_at charges j = slice_index_or charges j []
 
 -- Prices above 0 that rise, selections that fall from all needed parts to none, and at each price charges that prove the selection
--- before it best, and the one behind it of equal worth.
+-- before it best, and the one after it of equal worth.
 pub record CertifiesSchedule (p : SelectionProblem) (prices : List Fraction) (selections : List (List Bool)) (charges : List (List ℤ)) : Type 0 where
   pub count : length selections ≡ suc (length prices)
   pub charges_count : length charges ≡ length prices

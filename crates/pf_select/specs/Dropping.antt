@@ -70,7 +70,7 @@ pub record IsRound (p : SelectionProblem) (charges : List ℤ) (parts parts' pro
   pub forced : (x : Fraction) → IsForced p x charges parts products → IsForced p x charges parts' products'
   pub kept : result ≡ false → (k : ℕ) → k < count → KeepsNeed (product_at p k) (part_at p k) (at_arc charges k) parts' products'
 
--- just the parts that may still be charged are marked, among the first, and none behind
+-- just the parts that may still be charged are marked, among the first, and none after
 pub record AreCheap (slacks : List ℤ) (count : ℕ) (marks : List Bool) : Type 0 where
   pub cheap : (i : ℕ) → i < count → pos 0 <ℤ at_arc slacks i → has marks i ≡ true
   pub only : (i : ℕ) → has marks i ≡ true → i < count

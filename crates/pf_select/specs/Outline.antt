@@ -11,12 +11,12 @@ use Rattle.pf_select.specs.Text.{change_text}
 use Rattle.pf_select.specs.declared.outline.Change.{Change}
 use Rattle.pf_select.specs.declared.outline.Outline.{Outline}
 
--- a price with a number there, and the selection behind it, with so many parts
+-- a price with a number there, and the selection after it, with so many parts
 pub record IsChange (width : ℕ) (change : Change) : Type 0 where
   pub point : IsValued change.point
   pub full : length change.set ≡ width
 
--- the lines of price j, and of the selection behind it
+-- the lines of price j, and of the selection after it
 abbrev pub change_lines : ℕ → Change → List ℕ
 change_lines j change = change_text j change.point.at change.point.value change.set
 
@@ -25,7 +25,7 @@ abbrev pub all_changes : ℕ → List Change → List ℕ
 all_changes j [] = []
 all_changes j (change ∷ changes) = change_lines (j + 1) change ++ all_changes (j + 1) changes
 
--- the line of the first selection, and those behind it
+-- the line of the first selection, and those after it
 abbrev pub outline_text : List Bool → List Change → List ℕ
 outline_text first changes = side_line (codes "s") (0 ∷ []) [] first ++ all_changes 0 changes
 

@@ -82,7 +82,7 @@ pub record IsProperPart (set other : List Bool) : Type 0 where
   pub contained : IsContained set other
   pub different : set ≢ other
 
--- The best selection at every price: up to each price the selection before it, and behind the last price the last one.
+-- The best selection at every price: up to each price the selection before it, and after the last price the last one.
 pub record IsBestSchedule (p : SelectionProblem) (prices : List Fraction) (selections : List (List Bool)) : Type 0 where
   pub count : length selections ≡ suc (length prices)
   pub parameters : (j : ℕ) → j < length prices → IsParameter (price_at prices (suc j))

@@ -106,11 +106,11 @@ select = record {
   problem = λ header_numbers given. problem_by (all_given given.costs) (all_given given.gains) given.needs;
 }
 
--- the line of price j with a number there, and that of the selection behind it
+-- the line of price j with a number there, and that of the selection after it
 abbrev pub change_text : ℕ → Fraction → ℤ → List Bool → List ℕ
 change_text j price value set = fraction_line (codes "b") (j ∷ []) price (value ∷ []) ++ side_line (codes "s") (j ∷ []) [] set
 
--- the prices from price j + 1 on, each with what the selection before it is worth there and the selection behind it
+-- the prices from price j + 1 on, each with what the selection before it is worth there and the selection after it
 abbrev pub changes_text : SelectionProblem → ℕ → List Bool → List Fraction → List (List Bool) → List ℕ
 changes_text p j before (price ∷ prices) (set ∷ selections) = change_text (j + 1) price (worth p price before) set ++ changes_text p (j + 1) set prices selections
 changes_text p j before prices selections = []

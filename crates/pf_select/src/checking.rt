@@ -262,13 +262,13 @@ fn begins(catalogue: &Catalogue, answer: &Schedule, marks: &mut [bool]) -> bool
     requires marks { length marks.old ≡ length catalogue.now.costs }
     ensures { IsTrue result ↔ BeginsNeeded catalogue.now answer.now.selections }
 {
-    // It tells that needs name parts.
+    // Gives the proof that needs name parts.
     let _ = catalogue.parts();
     mark_needed(catalogue.pairs(), marks);
     is_same(answer.selection(0), marks)
 }
 
-// The test, with working room for the sums and the marks of parts, and behind them for those of products.
+// The test, with working room for the sums and the marks of parts, and after them for those of products.
 fn is_certified(
     catalogue: &Catalogue,
     answer: &Schedule,
@@ -308,7 +308,7 @@ pub fn check_schedule(catalogue: &Catalogue, answer: &Schedule, scratch: &mut Sc
     ensures places { KeepsPlaces scratch.old scratch.new }
     ensures best { OnTrue result (IsBestSchedule catalogue.now answer.now.prices answer.now.selections) }
 {
-    // It tells the limits of the catalogue.
+    // Gives the proof the limits of the catalogue.
     let _ = catalogue.parts();
     is_certified(
         catalogue,

@@ -82,7 +82,7 @@ pub fn write_slacks(
     requires products { length catalogue.now.gains ≤ length by_products.old }
     ensures { HasSlacks catalogue.now price.now charges.now on_parts.new by_products.new }
 {
-    // It tells the limits of the catalogue.
+    // Gives the proof the limits of the catalogue.
     let _ = catalogue.parts();
     let _ = price.q();
     write_scaled(price.p(), catalogue.costs(), on_parts);
@@ -147,7 +147,7 @@ fn drop_round(
     requires products { length catalogue.now.gains ≤ length products.old }
     ensures { IsRound catalogue.now charges.now parts.old parts.new products.old products.new (length catalogue.now.needs) result }
 {
-    // It tells that needs name products and parts.
+    // Gives the proof that needs name products and parts.
     let _ = catalogue.parts();
     let needs = catalogue.pairs();
     let mut changed = false;

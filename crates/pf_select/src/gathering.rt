@@ -11,7 +11,7 @@ use pf_frame::NoMemory;
 use pf_lines::{LineBad, RuleKind};
 use std::alloc::Global;
 
-/// The numbers of the header, and what the lines behind it have given so far: the cost of a part stands in the part's place, the
+/// The numbers of the header, and what the lines after it have given so far: the cost of a part stands in the part's place, the
 /// gain of a product in the product's.
 #[derive(Drop)]
 pub struct SelectState {
@@ -70,7 +70,7 @@ fn numbers_of(alloc: Global, slots: &[Option<u32>]) -> Result<Vec<u32>, LineBad>
 impl SelectState {
     ghost use Rattle.pf_select.specs.Gathered.{given_of, header_of};
 
-    /// Nothing behind a header of these numbers.
+    /// Nothing after a header of these numbers.
     pub fn new(
         alloc: Global,
         part_count: u32,

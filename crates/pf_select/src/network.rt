@@ -63,7 +63,7 @@ fn push_parts(costs: &[u32], arcs: &mut Vec<AffineArc>) -> Result<(), NoMemory>
     Ok(())
 }
 
-// The arcs of the needs, behind them.
+// The arcs of the needs, after them.
 fn push_needs(catalogue: &Catalogue, arcs: &mut Vec<AffineArc>) -> Result<(), NoMemory>
     ensures { IfOk result (λ _. arcs.new.items ≡ arcs.old.items ++ map (need_arc (length catalogue.now.costs)) catalogue.now.needs) }
 {
@@ -75,7 +75,7 @@ fn push_needs(catalogue: &Catalogue, arcs: &mut Vec<AffineArc>) -> Result<(), No
     Ok(())
 }
 
-// The arcs of the products, behind both.
+// The arcs of the products, after both.
 fn push_products(
     sink: u32,
     parts: u32,

@@ -15,14 +15,14 @@ use pf_lines::{AnswerBad, Exact, Valued, take_side_row, take_valued_row};
 use pf_rat::Rat;
 use std::alloc::Global;
 
-/// A price with the number that is written there, and the selection behind it.
+/// A price with the number that is written there, and the selection after it.
 #[derive(Drop)]
 pub struct Change {
     point: Valued,
     set: Side,
 }
 
-/// Prices, a selection up to each and one behind the last, and the number that is written at each price.
+/// Prices, a selection up to each and one after the last, and the number that is written at each price.
 #[derive(Drop)]
 pub struct Outline {
     pub prices: Points,
@@ -30,7 +30,7 @@ pub struct Outline {
     pub values: Numbers,
 }
 
-// The lines of price `j`, and of the selection behind it.
+// The lines of price `j`, and of the selection after it.
 fn take_change(
     alloc: Global,
     width: usize,
@@ -71,7 +71,7 @@ fn begin(alloc: Global, first: Side) -> Result<Outline, AnswerBad>
     })
 }
 
-// Adds the price, the number there, and the selection behind it.
+// Adds the price, the number there, and the selection after it.
 fn add_change(outline: &mut Outline, change: Change) -> Result<(), AnswerBad>
     ensures added { IfOk result (λ _. outline.new ≡ record {
       prices = outline.old.prices ++ change.point.at ∷ [];
@@ -88,7 +88,7 @@ fn add_change(outline: &mut Outline, change: Change) -> Result<(), AnswerBad>
     Ok(())
 }
 
-// The first selection, and so many prices with the selections behind them.
+// The first selection, and so many prices with the selections after them.
 fn take_outline(
     alloc: Global,
     width: usize,
@@ -133,7 +133,7 @@ fn values_agree(catalogue: &Catalogue, outline: &Outline) -> bool
     true
 }
 
-/// The first selection, and so many prices, each with what the selection before it is worth there and the selection behind it.
+/// The first selection, and so many prices, each with what the selection before it is worth there and the selection after it.
 pub fn take_selections(
     alloc: Global,
     catalogue: &Catalogue,

@@ -90,8 +90,8 @@ impl ProblemKind for SelectKind {
 /// refused, and why. `Repeated` is the rule of a second line of one part or product, `Missing` that of the line `end` where a part
 /// or a product has no line.
 ///
-/// The reader of lines is left behind the line that decided: the line `end`, or the one that is refused. Where no line is `end`,
-/// it is left behind the last one.
+/// The reader of lines is left after the line that decided: the line `end`, or the one that is refused. Where no line is `end`,
+/// it is left after the last one.
 pub fn read_select(alloc: Global, lines: &mut Lines<'_>) -> Result<Catalogue, ReadBad>
     ensures judged { Agrees (problem_of_lines select (lines_left lines.old))
         (λ catalogue. record { problem = catalogue; rest = lines.new.rest; line = lines.new.number }) result }

@@ -7,7 +7,7 @@ use pf_curve::{Points, Sides};
 use pf_frame::FlowTable;
 use std::marker::Model;
 
-/// The prices at which the best selection changes, the selection up to each price and the one behind the last, and for each price a
+/// The prices at which the best selection changes, the selection up to each price and the one after the last, and for each price a
 /// charge on each need, in units of `1/q` of the price `p/q`. Contracts see these three lists.
 #[derive(Drop)]
 pub struct Schedule {
@@ -43,7 +43,7 @@ impl Schedule {
         &self.prices
     }
 
-    /// The best selection up to each price, and the one behind the last. Each is indexed by part.
+    /// The best selection up to each price, and the one after the last. Each is indexed by part.
     pub fn selections(&self) -> &Sides
         ensures { result.now ≡ self.now.selections }
     {

@@ -68,7 +68,7 @@ fn carried(
     requires wide { AreAllWide catalogue.now curve.now.flows }
     ensures { IfOk result (λ charges. AreCarried catalogue.now curve.now.flows charges count) }
 {
-    // It tells how many flows there are.
+    // Gives the proof how many flows there are.
     let _ = curve.points();
     let parts = catalogue.parts() as usize;
     let needs = catalogue.needs() as usize;
@@ -92,7 +92,7 @@ impl Schedule {
         ensures certificate { IfOk result (λ s. CertifiesSchedule catalogue.now s.prices s.selections s.charges) }
         ensures shape { IfOk result (IsScheduleShape catalogue.now) }
     {
-        // It tells the limits of the catalogue.
+        // Gives the proof the limits of the catalogue.
         let _ = catalogue.parts();
         let net = select_net(alloc, catalogue)?;
         let curve = curve_of(alloc, &net)?;

@@ -47,7 +47,7 @@ fn mark_gained(catalogue: &Catalogue, set: &[bool], products: &mut [bool])
     ensures full { length products.new ≡ length products.old }
     ensures gained { AreGained catalogue.now.needs (length catalogue.now.needs) set.now products.new }
 {
-    // It tells that needs name products and parts.
+    // Gives the proof that needs name products and parts.
     let _ = catalogue.parts();
     let needs = catalogue.pairs();
     products.fill(true);
@@ -77,7 +77,7 @@ pub fn worth_at(catalogue: &Catalogue, price: &Rat, set: &[bool]) -> i128
     requires { length set.now ≡ length catalogue.now.costs }
     ensures { result ≡ worth catalogue.now price.now set.now }
 {
-    // It tells the limits of the catalogue.
+    // Gives the proof the limits of the catalogue.
     let _ = catalogue.parts();
     let mut products = [false; 5000];
     worth(catalogue, price, set, &mut products)

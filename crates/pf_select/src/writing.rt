@@ -29,7 +29,7 @@ fn print_price<K: Sink>(
     print_fraction_row(out, b"b", &[j], price, &[value])
 }
 
-// The lines of price `j` and of the selection behind it.
+// The lines of price `j` and of the selection after it.
 fn print_change<K: Sink>(
     out: &mut Printer<'_, K>,
     catalogue: &Catalogue,
@@ -46,7 +46,7 @@ fn print_change<K: Sink>(
     print_side_row(out, b"s", &[j], &[], set)
 }
 
-// The lines of all prices, and of the selections behind them.
+// The lines of all prices, and of the selections after them.
 fn print_changes<K: Sink>(
     out: &mut Printer<'_, K>,
     catalogue: &Catalogue,
@@ -92,7 +92,7 @@ fn print_charges<K: Sink>(out: &mut Printer<'_, K>, charges: &FlowTable) -> Resu
 }
 
 /// Writes the answer to `select`: the number of prices; the first selection, and for each price what the selection before it is
-/// worth there and the selection behind it; and then the charges at each price. A selection is written part by part, charges need
+/// worth there and the selection after it; and then the charges at each price. A selection is written part by part, charges need
 /// by need, worths and charges in units of `1/q` of their price `p/q`. It takes no memory. `Failed` comes only where the sink's
 /// count of faults rose, and leaves the printer spent.
 pub fn write_schedule<K: Sink>(

@@ -91,7 +91,7 @@ module _ (p : ShareProblem) (a : SharesAnswer) (h : IsShareProblem p) (c : Certi
   many : length g.ends ≡ length p.ends
   many = ends_there p a.levels a.groups h fine
 
-  -- the certificate's numbers, with all of each supply behind them
+  -- the certificate's numbers, with all of each supply after them
   abbrev whole : List ℤ
   whole = a.flow ++ g.weights
 

@@ -6,7 +6,7 @@ use Rattle.std.proofs.lemmas.List.{append-nil}
 use Rattle.pf_text.specs.Spelling.{spaced, head_text, row_line}
 use Rattle.pf_lines.proofs.RowsTaken.{line_taken}
 
--- what stands behind the first of them
+-- what stands after the first of them
 abbrev pub second_field : ℤ → List ℕ → List ℕ
 second_field q rest = (32 ∷ signed_decimal q) ++ (10 ∷ rest)
 

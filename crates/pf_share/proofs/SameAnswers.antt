@@ -18,6 +18,7 @@ use Rattle.pf_share.specs.Certificate.{SharesAnswer}
 use Rattle.pf_share.specs.Text.{levels_text, shares_lines}
 use Rattle.pf_share.specs.Right.{IsSharesShape}
 use Rattle.pf_share.specs.Laws.{SharesFromText}
+use Rattle.pf_text.proofs.SameParts.{same_fraction}
 use Rattle.pf_share.proofs.ShareLines.{same_front}
 use Rattle.pf_share.proofs.TextLemmas.{same_answer, row_of_groups, level_lines, front_lines, last_lines, flow_lines, node_lines, later_lines, all_lines}
 
@@ -25,19 +26,6 @@ use Rattle.pf_share.proofs.TextLemmas.{same_answer, row_of_groups, level_lines, 
 
 abbrev HasDigits : ℤ → Type 0
 HasDigits x = nat_abs x < 10 ^ 64
-
-abbrev fraction_of : ℤ → ℤ → Fraction
-fraction_of p q = record { p = p; q = q }
-
-of_parts : (p p' q q' : ℤ) → p ≡ p' → q ≡ q' → fraction_of p q ≡ fraction_of p' q'
-of_parts p p' q q' e f = cc
-
-same_fraction : (x y : Fraction) → IsFractionShape x → IsFractionShape y → signed_decimal x.p ≡ signed_decimal y.p → signed_decimal x.q ≡ signed_decimal y.q → x ≡ y
-same_fraction x y shape shape' p q =
-    let size : (z : Fraction) → IsFractionShape z → (nat_abs z.p < 10 ^ 64) × (nat_abs z.q < 10 ^ 64) = λ z s. (let a = s.bounds.p_low in let b = s.bounds.p_high in omega (arith, ints, a, b), let c = s.bounds.parameter in let d = s.bounds.q_high in omega (arith, ints, c, d)) in
-    let same_p = one_number x.p y.p (size x shape).0 (size y shape').0 p in
-    let same_q = one_number x.q y.q (size x shape).1 (size y shape').1 q in
-    of_parts x.p y.p x.q y.q same_p same_q
 
 cons_same : {X : Type 0} (x y : X) (xs ys : List X) → x ≡ y → xs ≡ ys → x ∷ xs ≡ y ∷ ys
 cons_same x y xs ys e f = ap (λ z. z ∷ xs) e ∙ ap (λ zs. y ∷ zs) f

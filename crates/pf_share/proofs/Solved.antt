@@ -238,7 +238,7 @@ joins_least joins slice slice' first e e' f =
     let P : List ℕ → Type 0 = λ l. IsFirst l first in
     first_least slice' first (subst P (e ∙ sym e') f)
 
--- the points behind the first are the levels
+-- the points after the first are the levels
 pub levels_count : (net : Network) (points shown : List Fraction) (cuts : List (List Bool)) (joins : List ℕ) (first : ℕ) → IsCurve net points cuts → shown ≡ points → IsFirst joins first →
     first + ((length shown - 1) - first) ≡ length cuts
 levels_count net points shown cuts joins first v same f =

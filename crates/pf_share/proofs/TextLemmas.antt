@@ -1,4 +1,4 @@
--- The parts of the text of an answer, one behind the other.
+-- The parts of the text of an answer, one after the other.
 use Rattle.std.proofs.Common.{◌≡◌, ℕ, ◌≤◌, List, [], ◌∷◌, ◌++◌, length, append_assoc, arith, ap, sym, subst, ◌∙◌, length-append}
 use Rattle.std.specs.Prelude.{ℤ, All, codes}
 use Rattle.pf_model.specs.Fraction.{Fraction}
@@ -57,7 +57,7 @@ front_shape p count levels groups full each shape =
 
 -- ---- the whole answer
 
--- what stands behind the numbers on the arcs, behind the shares, behind the groups, and behind the first line
+-- what stands after the numbers on the arcs, after the shares, after the groups, and after the first line
 abbrev pub last_lines : List ℕ → List ℕ
 last_lines rest = line (codes "end" ∷ []) ++ rest
 
@@ -105,7 +105,7 @@ whole_shape p front flow width e shape numbers = record {
   flow = numbers.each;
 }
 
--- the shares behind the groups that were taken are those of the answer
+-- the shares after the groups that were taken are those of the answer
 pub behind_front : (p : ShareProblem) (a front : SharesAnswer) (b rest : List ℕ) → front ≡ front_of a.levels a.groups → b ≡ node_lines p a rest →
     b ≡ shares_lines front.levels 0 p.weights front.groups ++ flow_lines a.flow rest
 behind_front p a front b rest same there =

@@ -55,7 +55,7 @@ level_of_nothing = answer (fraction 0 1 ∷ (fraction 5 1 ∷ [])) (three 1 2 0)
 abbrev pub NoWayOut : Type 0
 NoWayOut = CertifiesShares no_way_out level_of_nothing
 
--- levels in thirds: sources of the weights 1 and 2 share an arc of capacity 4, and what they push together is counted in thirds behind it
+-- levels in thirds: sources of the weights 1 and 2 share an arc of capacity 4, and what they push together is counted in thirds after it
 abbrev pub thirds : ShareProblem
 thirds = record {
   nodes = 4;

@@ -143,7 +143,7 @@ fn take_node(
     ensures found { (rest : List ℕ) → text.old ≡ node_text answer.now.levels v (at_arc sharing.now.weights v) (at_arc answer.now.groups v) ++ rest
         → Passes rest result text.new }
 {
-    // It tells how many nodes there are at most.
+    // Gives the proof how many nodes there are at most.
     let _ = sharing.nodes();
     let weight = sharing.weight(v);
     if weight == 0 {

@@ -31,7 +31,7 @@ fn is_level(levels: &[Rat], j: usize) -> bool
     requires { j < length levels.now }
     ensures { IsTrue result ↔ IsLevel levels.now j }
 {
-    // It tells that the level is a fraction.
+    // Gives the proof that the level is a fraction.
     let _ = levels[j].q();
     if levels[j].p() < 0 {
         return false;
@@ -248,7 +248,7 @@ pub(crate) fn add_arcs(sharing: &Sharing, answer: &Shares, sums: &mut [i128])
     requires own { AreOwn sharing.now answer.now sharing.now.nodes sums.old }
     ensures { AreBalances sharing.now answer.now sums.new }
 {
-    // It tells what holds of every such network.
+    // Gives the proof what holds of every such network.
     let _ = sharing.nodes();
     let count = sharing.arcs() as usize;
     'arcs: for i in 0..count {
@@ -316,7 +316,7 @@ pub fn check_shares(sharing: &Sharing, answer: &Shares, scratch: &mut Scratch) -
     ensures places { KeepsPlaces scratch.old scratch.new }
     ensures best { OnTrue result (IsBestShares sharing.now answer.now) }
 {
-    // It tells what holds of every such network.
+    // Gives the proof what holds of every such network.
     let _ = sharing.nodes();
     is_certified(sharing, answer, scratch.sums.as_mut_slice())
 }

@@ -10,7 +10,7 @@ use pf_frame::NoMemory;
 use pf_lines::{LineBad, RuleKind};
 use std::alloc::Global;
 
-/// The numbers of the header, and what the lines behind it have given so far: the weight of a node stands in the node's place, and 0
+/// The numbers of the header, and what the lines after it have given so far: the weight of a node stands in the node's place, and 0
 /// where none was given.
 #[derive(Drop)]
 pub struct ShareState {
@@ -44,7 +44,7 @@ fn number_of(number: i64) -> u32
 impl ShareState {
     ghost use Rattle.pf_share.specs.Gathered.{given_of, header_of};
 
-    /// Nothing behind a header of these numbers.
+    /// Nothing after a header of these numbers.
     pub fn new(alloc: Global, node_count: u32, arc_count: usize) -> Result<ShareState, NoMemory>
         ensures header { IfOk result (λ state. header_of state ≡ pos node_count ∷ pos arc_count ∷ []) }
         ensures given { IfOk result (λ state. given_of state ≡ record { sink = None; weights = replicate node_count 0; ends = []; capacities = [] }) }

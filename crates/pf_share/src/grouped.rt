@@ -39,7 +39,7 @@ fn push_arcs(sharing: &Sharing, answer: &Shares, ends: &mut Vec<(u32, u32)>) -> 
     requires none { ends.old.items ≡ [] }
     ensures { IfOk result (λ _. ends.new.items ≡ take (length sharing.now.ends) (group_net sharing.now answer.now.levels answer.now.groups).ends) }
 {
-    // It tells what holds of every such network.
+    // Gives the proof what holds of every such network.
     let _ = sharing.nodes();
     let count = sharing.arcs() as usize;
     'arcs: for i in 0..count {
@@ -50,7 +50,7 @@ fn push_arcs(sharing: &Sharing, answer: &Shares, ends: &mut Vec<(u32, u32)>) -> 
     Ok(())
 }
 
-// The arcs of the source, behind them.
+// The arcs of the source, after them.
 fn push_source_arcs(
     sharing: &Sharing,
     answer: &Shares,
@@ -89,7 +89,7 @@ fn push_capacities(sharing: &Sharing, answer: &Shares, caps: &mut Vec<i128>) -> 
     requires none { caps.old.items ≡ [] }
     ensures { IfOk result (λ _. caps.new.items ≡ take (length sharing.now.ends) (group_net sharing.now answer.now.levels answer.now.groups).capacities) }
 {
-    // It tells what holds of every such network.
+    // Gives the proof what holds of every such network.
     let _ = sharing.nodes();
     let count = sharing.arcs() as usize;
     'arcs: for i in 0..count {
@@ -122,7 +122,7 @@ fn supply_of(balance: &i128, is_sink: bool) -> i128
     -balance
 }
 
-// The capacities of the arcs of the source, behind them.
+// The capacities of the arcs of the source, after them.
 fn push_supplies(
     sharing: &Sharing,
     answer: &Shares,
@@ -219,7 +219,7 @@ fn numbers_of(
     ensures certificate { IfOk result (λ numbers. CertifiesShares sharing.now (answer_of answer.now.levels answer.now.groups numbers)) }
     ensures sized { IfOk result (All (IsWithinSize capacity_bound)) }
 {
-    // It tells what holds of every such network.
+    // Gives the proof what holds of every such network.
     let _ = sharing.nodes();
     let arcs = sharing.arcs() as usize;
     write_flow(alloc, sharing, answer, flow)?;

@@ -44,7 +44,7 @@ fn push_flows(sharing: &Sharing, arcs: &mut Vec<AffineArc>) -> Result<(), NoMemo
     requires { arcs.old.items ≡ [] }
     ensures { IfOk result (λ _. arcs.new.items ≡ flow_arcs sharing.now.ends sharing.now.capacities) }
 {
-    // It tells what holds of every such network.
+    // Gives the proof what holds of every such network.
     let _ = sharing.nodes();
     let count = sharing.arcs() as usize;
     'arcs: for i in 0..count {
@@ -53,7 +53,7 @@ fn push_flows(sharing: &Sharing, arcs: &mut Vec<AffineArc>) -> Result<(), NoMemo
     Ok(())
 }
 
-// The arcs of the source, behind them.
+// The arcs of the source, after them.
 fn push_sources(sharing: &Sharing, arcs: &mut Vec<AffineArc>) -> Result<(), NoMemory>
     ensures { IfOk result (λ _. arcs.new.items ≡ arcs.old.items ++ source_arcs sharing.now.nodes 0 sharing.now.weights) }
 {

@@ -87,8 +87,8 @@ impl ProblemKind for ShareKind {
 /// why. `Repeated` is the rule of a second line of the sink or a second weight of one node, `Missing` that of a weight, an arc or the
 /// line `end` where no sink was given, and `Ends` that of a weight of the sink.
 ///
-/// The reader of lines is left behind the line that decided: the line `end`, or the one that is refused. Where no line is `end`,
-/// it is left behind the last one.
+/// The reader of lines is left after the line that decided: the line `end`, or the one that is refused. Where no line is `end`,
+/// it is left after the last one.
 pub fn read_share(alloc: Global, lines: &mut Lines<'_>) -> Result<Sharing, ReadBad>
     ensures judged { Agrees (problem_of_lines share (lines_left lines.old))
         (λ sharing. record { problem = sharing; rest = lines.new.rest; line = lines.new.number }) result }

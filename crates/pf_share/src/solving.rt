@@ -118,7 +118,7 @@ impl Shares {
         ensures certificate { IfOk result (CertifiesShares sharing.now) }
         ensures shape { IfOk result (IsSharesShape sharing.now) }
     {
-        // It tells what holds of every such network.
+        // Gives the proof what holds of every such network.
         let _ = sharing.nodes();
         let net = share_net(alloc, sharing)?;
         let curve = cuts_of(alloc, &net)?;

@@ -51,7 +51,7 @@ fn print_node<K: Sink>(
     requires node { v < sharing.now.nodes }
     ensures { Adds out.old out.new (node_text answer.now.levels v (at_arc sharing.now.weights v) (at_arc answer.now.groups v)) result }
 {
-    // It tells how many nodes there are at most.
+    // Gives the proof how many nodes there are at most.
     let _ = sharing.nodes();
     let weight = sharing.weight(v);
     if weight == 0 {

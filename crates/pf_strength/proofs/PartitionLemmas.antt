@@ -66,7 +66,7 @@ spaced_long (field ∷ fields) =
     let both = length-append (32 ∷ field) (spaced fields) in
     omega (arith, later, both)
 
--- as many bytes as parts stand behind the line of their number
+-- as many bytes as parts stand after the line of their number
 pub parts_behind : (labels rest : List ℕ) → parts labels ≤ length (label_line (codes "s") [] labels ++ rest)
 parts_behind labels rest =
     let most = parts_most labels in

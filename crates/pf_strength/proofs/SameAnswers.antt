@@ -10,6 +10,7 @@ use Rattle.pf_model.specs.Fraction.{Fraction}
 use Rattle.pf_model.specs.Answer.{IsFractionShape}
 use Rattle.pf_frame.specs.Numbers.{IsSized}
 use Rattle.pf_text.specs.Spelling.{line, row_line, fraction_line, label_line}
+use Rattle.pf_text.proofs.SameParts.{same_fraction}
 use Rattle.pf_text.proofs.NumbersLemmas.{one_number}
 use Rattle.pf_text.proofs.TextLines.{ArePlain, lines_text, lines_text-append, same_lines, decimal_plain, signed_plain, numbers_plain, same_decimal}
 use Rattle.pf_graph.specs.WeightedGraph.{WeightedGraph, digraph_of}
@@ -68,19 +69,6 @@ same_labels (x ∷ a) (y ∷ b) sa sb e =
     let here = same_decimal x y sa.0 sb.0 first in
     let back = same_labels a b sa.1 sb.1 later in
     cc
-
-abbrev fraction_of : ℤ → ℤ → Fraction
-fraction_of p q = record { p = p; q = q }
-
-of_parts : (p p' q q' : ℤ) → p ≡ p' → q ≡ q' → fraction_of p q ≡ fraction_of p' q'
-of_parts p p' q q' e f = cc
-
-pub same_fraction : (x y : Fraction) → IsFractionShape x → IsFractionShape y → signed_decimal x.p ≡ signed_decimal y.p → signed_decimal x.q ≡ signed_decimal y.q → x ≡ y
-same_fraction x y shape shape' p q =
-    let size : (z : Fraction) → IsFractionShape z → (nat_abs z.p < 10 ^ 64) × (nat_abs z.q < 10 ^ 64) = λ z s. (let a = s.bounds.p_low in let b = s.bounds.p_high in omega (arith, ints, a, b), let c = s.bounds.parameter in let d = s.bounds.q_high in omega (arith, ints, c, d)) in
-    let same_p = one_number x.p y.p (size x shape).0 (size y shape').0 p in
-    let same_q = one_number x.q y.q (size x shape).1 (size y shape').1 q in
-    of_parts x.p y.p x.q y.q same_p same_q
 
 -- ---- the lines of an answer
 

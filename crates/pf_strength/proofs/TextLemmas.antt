@@ -1,4 +1,4 @@
--- The lines of a strength's text, one behind the other.
+-- The lines of a strength's text, one after the other.
 use Rattle.std.proofs.Common.{◌≡◌, ℕ, ◌+◌, ◌<◌, ◌^◌, List, [], ◌∷◌, ◌++◌, length, drop, get_or, add-one, refl, append_assoc, arith, ap, sym, subst, ◌∙◌}
 use Rattle.std.specs.Prelude.{ℤ, pos, negsuc, neg_ℤ, ◌<ℤ◌, codes, All}
 use Rattle.std.proofs.lemmas.Int.{ints}
@@ -76,7 +76,7 @@ pub splits_stand : (g : WeightedGraph) (count : ℕ) (old : List ℕ) (rows : Li
     old ≡ splits_text 0 rows ++ rest → Stand (split_items g) count old rows rest
 splits_stand g count old rows rest full each there = record { full = full; each = each; behind = tt; text = there }
 
--- the split of the root r, and those behind it
+-- the split of the root r, and those after it
 pub splits_text_at : (r : ℕ) (rows : List (List ℤ)) → r < length rows → splits_text r (drop r rows) ≡ split_line r (row_at rows r) ++ splits_text (r + 1) (drop (r + 1) rows)
 splits_text_at r rows low =
     let next : drop r rows ≡ get_or rows r [] ∷ drop (r + 1) rows = rw add-one (drop-cons rows r [] low) in
@@ -84,7 +84,7 @@ splits_text_at r rows low =
 
 -- ---- the whole text
 
--- what stands behind the first line, behind the level, behind the partition, behind the vector, and behind the splits
+-- what stands after the first line, after the level, after the partition, after the vector, and after the splits
 abbrev pub last_lines : List ℕ → List ℕ
 last_lines rest = line (codes "end" ∷ []) ++ rest
 

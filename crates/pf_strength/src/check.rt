@@ -43,7 +43,7 @@ pub fn check_strength(graph: &Graph, answer: &Strength, scratch: &mut Scratch) -
     ensures strength { OnTrue result (IsStrength graph.now answer.now.level answer.now.parts) }
     ensures places { KeepsPlaces scratch.old scratch.new }
 {
-    // It tells the limits.
+    // Gives the proof the limits.
     let _ = graph.frame();
     let level = answer.level();
     let q = level.q();

@@ -14,7 +14,7 @@ fn ratio(graph: &Graph, partition: &Partition) -> Rat
     requires two { 2 ≤ parts partition.now }
     ensures { HasRatio graph.now result partition.now }
 {
-    // It tells the limits.
+    // Gives the proof the limits.
     let _ = graph.frame();
     let crossing = graph.crossing(partition);
     let parts = partition.parts();
@@ -26,7 +26,7 @@ pub(crate) fn partition_value(graph: &Graph, partition: &Partition, level: &Rat)
     requires { length partition.now ≡ graph.now.nodes }
     ensures { result ≡ partition_value graph.now partition.now level.now }
 {
-    // It tells the limits.
+    // Gives the proof the limits.
     let _ = graph.frame();
     let crossing = graph.crossing(partition);
     let parts = partition.parts();
@@ -42,7 +42,7 @@ pub(crate) fn find<'g>(graph: &Graph, forest: &mut Forest<'g>, best: &mut Partit
     requires two { 2 ≤ graph.now.nodes }
     ensures { IsLast graph.now result best.new forest.new }
 {
-    // It tells the limits.
+    // Gives the proof the limits.
     let _ = graph.frame();
     let mut level = ratio(graph, best);
     forest.fill(&level);

@@ -124,7 +124,7 @@ before_more items k i b = elim (cases_lt b.place k) [
   | inr most ↦ let h = b.before in let same : b.place ≡ k = omega (arith, h, most) in inl (sym b.is ∙ ap (λ j. get_or items j 0) same)
 ]
 
--- behind the second list: those of the first list, and those before a place of the second
+-- after the second list: those of the first list, and those before a place of the second
 abbrev pub IsPast : Digraph → ℕ → List ℕ → ℕ → ℕ → Type 0
 IsPast g s items k i = (tail_of g i ≡ s) ⊎ StandsBefore items k i
 

@@ -77,7 +77,7 @@ fn numerator(net: &Net, k: u32, j: u32) -> i128
     ensures value { result ≡ step_units net.now k j }
     ensures size { nat_abs result ≤ 2 ^ 111 }
 {
-    // It tells that the network is one.
+    // Gives the proof what every network keeps.
     let _ = net.frame().nodes();
     let (lo, hi) = (net.lo(), net.hi());
     let low = cross(lo, hi);
@@ -125,7 +125,7 @@ fn add_next<L: Ledger>(
     requires seen { IsSeen net.now k j y.now least.now }
     ensures { IfOk result (λ _. IsUnderway net.now k (j + 1) sweep.new rows.new) }
 {
-    // It tells that the network is one.
+    // Gives the proof what every network keeps.
     let _ = net.frame().nodes();
     let y = *y;
     let least = *least;
@@ -165,7 +165,7 @@ fn add_block<L: Ledger>(
     ensures sweep { IfOk result (λ _. IsUnderway net.now k (to + 1) sweep.new rows.new) }
     ensures ahead { IfOk result (λ _. IsAhead net.now k (to + 1) ahead.new) }
 {
-    // It tells that the network is one.
+    // Gives the proof what every network keeps.
     let _ = net.frame().nodes();
     let y = numerator(net, k, to);
     ahead.advance(y, steps);
@@ -254,7 +254,7 @@ fn rows_from(
     ensures rows { IfOk result (AreRows net.now k) }
     ensures fine { result ≢ Err SweepBad.TooFine }
 {
-    // It tells that the network is one.
+    // Gives the proof what every network keeps.
     let _ = net.frame().nodes();
     let mut rows = Rows::new(alloc);
     add_row(net, k, 0, sweep, &mut rows)?;
@@ -271,7 +271,7 @@ fn rising_rows(alloc: Global, net: &Net, k: u32) -> Result<Rows, SweepBad>
     ensures rows { IfOk result (AreRows net.now k) }
     ensures fine { (result ≡ Err SweepBad.TooFine) ↔ (is_too_fine k net.now ≡ true) }
 {
-    // It tells that the network is one.
+    // Gives the proof what every network keeps.
     let _ = net.frame().nodes();
     let unit = unit(net, k);
     let mut sweep = Sweep::make(alloc, net, unit)?;

@@ -77,14 +77,14 @@ fn none_fell(before: &[u32], after: &[u32]) -> bool {
     true
 }
 
-// Whether no label has fallen so far, and the sum behind the first step.
+// Whether no label has fallen so far, and the sum after the first step.
 #[derive(Clone, Copy)]
 struct Seen {
     none_fell: bool,
     after_first: u64,
 }
 
-// What is seen behind the step to `p`.
+// What is seen after the step to `p`.
 fn look(seen: &Seen, p: u32, before: &[u32], after: &[u32]) -> Seen {
     Seen {
         none_fell: seen.none_fell && none_fell(before, after),

@@ -104,7 +104,7 @@ found_holds P (form ∷ forms) fields found all e r =
 
 -- ---- the induction over the lines
 
--- the state behind a line of this form
+-- the state after a line of this form
 abbrev pub after : {G : Type 0} → State G → Form G → G → State G
 after state form given = record {
   header_numbers = state.header_numbers;
@@ -118,7 +118,7 @@ Keeps {G} kind Holds state form numbers =
     (form.is_counted && eqb state.counted_lines (kind.count state.header_numbers)) ≡ false
     → (given : G) → form.rules numbers state.given ≡ Ok given → Holds (after state form given)
 
--- what holds behind the header and is kept by each line gives what is claimed of the problem
+-- what holds after the header and is kept by each line gives what is claimed of the problem
 pub record IsInvariant {G P : Type 0} (kind : Kind G P) (Holds : State G → Type 0) (Claim : P → Type 0) : Type 0 where
   pub begins : (numbers : List ℤ) → Fits kind.header_patterns numbers → Holds (record { header_numbers = numbers; counted_lines = 0; given = kind.start numbers })
   pub kept : (state : State G) → Holds state → AllByRecursion (HoldsOf (Keeps kind Holds state)) (kind.forms state.header_numbers)

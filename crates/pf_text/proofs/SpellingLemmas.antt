@@ -6,7 +6,7 @@ use Rattle.std.specs.Fmt.{decimal, signed_decimal}
 use Rattle.std.specs.List.{join_with_byte}
 use Rattle.pf_text.specs.Spelling.{line, side_text, spaced, rest_of_line, numbers_text, head, head_text}
 
--- A text of a list that is the texts of its pieces: one item more, and the whole behind what was printed.
+-- A text of a list that is the texts of its pieces: one item more, and the whole after what was printed.
 pub text_more : {X : Type 0} (text : List X → List ℕ) → ((a b : List X) → text (a ++ b) ≡ text a ++ text b) → (xs : List X) (i : ℕ) (d : X) → i < length xs
     → text (take (i + 1) xs) ≡ text (take i xs) ++ text (get_or xs i d ∷ [])
 text_more text law xs i d low = ap text (take_more xs i d low) ∙ law (take i xs) (get_or xs i d ∷ [])
@@ -73,7 +73,7 @@ head_then word indices fields =
     ∙ ap (λ (rest : List ℕ). word ++ rest) (rest-append (map decimal indices) fields)
     ∙ line_is word (map decimal indices ++ fields)
 
--- and what stands behind it
+-- and what stands after it
 pub line_then : (word : List ℕ) (indices : List ℕ) (fields : List (List ℕ)) (rest : List ℕ) → line (head word indices ++ fields) ++ rest ≡ head_text word indices ++ (spaced fields ++ (10 ∷ rest))
 line_then word indices fields rest =
     ap (λ (t : List ℕ). t ++ rest) (sym (head_then word indices fields) ∙ ap (λ (t : List ℕ). head_text word indices ++ t) (sym (rest_is fields)))

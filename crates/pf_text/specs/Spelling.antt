@@ -1,4 +1,4 @@
--- How lines are spelled: fields with one space between them, and a line feed behind each line.
+-- How lines are spelled: fields with one space between them, and a line feed after each line.
 use Rattle.std.specs.Prelude.{ℕ, ℤ, Bool, if◌then◌else◌, List, [], ◌∷◌, ◌++◌, map}
 use Rattle.std.specs.List.{join_with_byte}
 use Rattle.std.specs.Fmt.{decimal, signed_decimal}
@@ -13,7 +13,7 @@ abbrev pub spaced : List (List ℕ) → List ℕ
 spaced [] = []
 spaced (field ∷ fields) = (32 ∷ field) ++ spaced fields
 
--- what stands behind the first field of a line: the other fields, each with a space in front, and the line feed
+-- what stands after the first field of a line: the other fields, each with a space in front, and the line feed
 abbrev pub rest_of_line : List (List ℕ) → List ℕ
 rest_of_line [] = 10 ∷ []
 rest_of_line (field ∷ fields) = (32 ∷ field) ++ rest_of_line fields

@@ -6,7 +6,7 @@ use Rattle.pf_text.specs.Spelling.{line}
 unfoldable pub verdict_text : Bool → List ℕ
 verdict_text holds = line (codes "o" ∷ codes "check" ∷ []) ++ line ((if holds then codes "yes" else codes "no") ∷ []) ++ line (codes "end" ∷ [])
 
--- a claim, and a text that says `yes` exactly where the claim holds and `no` elsewhere
+-- a claim, and a text that says `yes` exactly where the claim holds and `no` otherwise
 pub record IsRightVerdict (claim : Type 0) (text : List ℕ) : Type 0 where
   pub verdict : Bool
   pub exact : (verdict ≡ true) ↔ claim

@@ -4,7 +4,7 @@ use Rattle.std.specs.Option.{option_map, option_and_then}
 use Rattle.pf_model.specs.Fraction.{Fraction, lowest}
 use Rattle.pf_text.specs.Numbers.{natural_of, whole_of, billion}
 
--- the bytes before the first slash and behind it
+-- the bytes before the first slash and after it
 abbrev pub split_at_slash : List ℕ → Option (List ℕ × List ℕ)
 split_at_slash [] = None
 split_at_slash (b ∷ bytes) = if b == 47 then Some ([], bytes) else option_map (λ parts. (b ∷ parts.0, parts.1)) (split_at_slash bytes)

@@ -40,7 +40,7 @@ refused_text command bytes start refusal short begins b = rw b.same (record {
   short = λ e. cc;
 })
 
--- a line behind the problem
+-- a line after the problem
 pub refused_line : (row : Row) (bytes : List ℕ) (start after : Place) (problem : ProblemOf row) (line : Line) (later : List Line) (refusal : Refusal) → length bytes ≤ 2 ^ 29
     → Begins start bytes → IsReadTo row start after problem → lines_left after ≡ line ∷ later → Text (Syntax line.number) ≡ refusal → IsRefused (answer row) bytes refusal
 refused_line row bytes start after problem line later refusal short begins r behind same = rw (← same) (record {
@@ -65,7 +65,7 @@ pub accepted_problem : (row : Row) (bytes : List ℕ) (problem : ProblemOf row) 
     → (job_of row).refusal problem ≡ None → asked_of_bytes (answer row) bytes ≡ accepted (answer row) problem p.rest
 accepted_problem row bytes problem short p passed = asks_read (answer row) bytes short ∙ rw (p.text, p.alone, passed) refl
 
--- a problem with the text behind it
+-- a problem with the text after it
 pub accepted_behind : (row : Row) (bytes : List ℕ) (start after : Place) (problem : ProblemOf row) → length bytes ≤ 2 ^ 29 → Begins start bytes → IsReadTo row start after problem
     → asked_of_bytes (check row) bytes ≡ accepted (check row) problem after.rest
 accepted_behind row bytes start after problem short begins r = asks_read (check row) bytes short ∙ rw (rw begins at r.judged) refl

@@ -58,19 +58,19 @@ no_words : asked [] (text two_lines)
 unfolding text raw_lines fields lines_from natural_of whole_of header step end_line par lowest parameter_of command_of asked
 no_words = refl
 
--- a line behind the end
+-- a line after the end
 line_behind : asked (codes "at" ∷ codes "4/1" ∷ []) (text two_lines ++ text (codes "x" ∷ []))
     ≡ refused (Text (Syntax 8))
 unfolding text raw_lines fields lines_from natural_of whole_of header step end_line par lowest parameter_of command_of asked
 line_behind = refl
 
--- a comment behind the end
+-- a comment after the end
 comment_behind : asked (codes "at" ∷ codes "4/1" ∷ []) (text two_lines ++ text (codes "c x" ∷ []))
     ≡ accepted (answer (at (record { p = pos 4; q = pos 1 }))) two (text (codes "c x" ∷ []))
 unfolding text raw_lines fields lines_from natural_of whole_of header step end_line par lowest parameter_of command_of asked
 comment_behind = refl
 
--- the text of an answer behind the problem, also one that is no comment
+-- the text of an answer after the problem, also one that is no comment
 answer_behind : asked (codes "check" ∷ codes "curve" ∷ []) (text two_lines ++ text (codes "o curve" ∷ []))
     ≡ accepted (check (named Curve)) two (text (codes "o curve" ∷ []))
 unfolding text raw_lines fields lines_from natural_of whole_of header step end_line par lowest parameter_of command_of asked

@@ -17,7 +17,7 @@ pub record IsRefused (command : TextCommand) (bytes : List ℕ) (refusal : Refus
   pub asks : asked_of_bytes command bytes ≡ refused refusal
   pub short : refusal ≢ TooLong
 
--- the lines that are left at a place give the problem, and the other place is the one behind them
+-- the lines that are left at a place give the problem, and the other place is the one after them
 pub record IsReadTo (row : Row) (before after : Place) (problem : ProblemOf row) : Type 0 where
   pub judged : (job_of row).read (lines_left before) ≡ Ok (record { problem = problem; rest = after.rest; line = after.number })
 
@@ -27,7 +27,7 @@ pub record IsBadText (row : Row) (before : Place) (refusal : Refusal) : Type 0 w
   pub judged : (job_of row).read (lines_left before) ≡ Err bad
   pub same : refusal ≡ Text bad
 
--- the text is that of the problem, with no line behind it
+-- the text is that of the problem, with no line after it
 pub record IsProblemOf (row : Row) (bytes : List ℕ) (problem : ProblemOf row) : Type 0 where
   pub rest : List ℕ
   pub line : ℕ

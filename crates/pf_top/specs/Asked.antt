@@ -39,7 +39,7 @@ level_of_parts front back = fraction_of_numbers (option_map pos (natural_within 
 unfoldable pub level_of : List ℕ → Option Fraction
 level_of bytes = option_and_then (λ slash. level_of_parts (take slash bytes) (drop (slash + 1) bytes)) (position (λ b. b == 47) bytes)
 
--- the words that have a second one behind them, and what both then ask for, if the second has its form
+-- the words that have a second one after them, and what both then ask for, if the second has its form
 abbrev pub first_words : List (List ℕ × (List ℕ → Option Command))
 first_words =
     (codes "at", λ second. option_map (λ x. reads (answer (at x))) (parameter_of second))
@@ -61,7 +61,7 @@ abbrev pub refusal_of_lines : List Line → Option Refusal
 refusal_of_lines [] = None
 refusal_of_lines (line ∷ later) = Some (Text (Syntax line.number))
 
--- what is refused of the text behind the problem: a line that is neither blank nor a comment, where no answer belongs there
+-- what is refused of the text after the problem: a line that is neither blank nor a comment, where no answer belongs there
 abbrev pub refusal_behind : (command : TextCommand) → Accepted (ProblemOf (row_of command)) → Option Refusal
 refusal_behind (answer row) read = refusal_of_lines (lines_from (read.line + 1) read.rest)
 refusal_behind (check row) read = None
@@ -104,7 +104,7 @@ asked_by (Some (draws seed)) bytes = drawn seed
 unfoldable pub asked : List (List ℕ) → List ℕ → Asked
 asked words bytes = asked_by (command_of words) bytes
 
--- The text is that of a right answer to the command for this problem, with this text behind it.
+-- The text is that of a right answer to the command for this problem, with this text after it.
 abbrev pub IsRight : (command : TextCommand) → ProblemOf (row_of command) → List ℕ → List ℕ → Type 0
 IsRight (answer row) problem rest text = (job_of row).IsRight problem text
 IsRight (check row) problem rest text = IsRightVerdict ((job_of row).Certifies problem rest) text

@@ -145,7 +145,7 @@ job_of (named Share) = record {
 abbrev pub ProblemOf : Row → Type 0
 ProblemOf row = (job_of row).Problem
 
--- a command over a text: an answer is sought, or one behind the problem is checked
+-- a command over a text: an answer is sought, or one after the problem is checked
 pub data TextCommand : Type 0 where
   answer : Row → TextCommand
   check : Row → TextCommand

@@ -58,7 +58,7 @@ status_words No = []
 abbrev pub status_line : Status → List ℕ
 status_line status = codes "ppart: " ++ status_words status ++ 10 ∷ []
 
--- The sink took all of these bytes and they were flushed, or its count of faults rose and it took a front of them.
+-- The sink took all of these bytes and they were flushed, or its count of faults rose and it took a prefix of them.
 abbrev pub TookLine : {T : Type 0} → Sink T → T → T → List ℕ → Type 0
 TookLine E old new bytes =
     (Took (E.taken old) (E.taken new) bytes × (E.flushed new ≡ told_length (E.taken new)))

@@ -29,12 +29,12 @@ IsNoTo (refused refusal) text = ⊥
 abbrev pub TookWhole : {U : Type 0} → Sink U → U → U → List ℕ → Type 0
 TookWhole O old new text = Took (O.taken old) (O.taken new) text × (O.flushed new ≡ told_length (O.taken new))
 
--- the sink took a front of this text
+-- the sink took a prefix of this text
 abbrev pub TookFront : {U : Type 0} → Sink U → U → U → List ℕ → Type 0
 TookFront O old new text = IsFrontOf (O.taken old) (O.taken new) × IsFrontOf (O.taken new) (after_told (O.taken old) text)
 
 -- What a status says of what was asked, and what the sink of answers then took: with `Done` and `No` the whole text of a
--- right answer, after a fault of its own a front of one, and nothing with all others.
+-- right answer, after a fault of its own a prefix of one, and nothing with all others.
 abbrev pub Says : {U : Type 0} → Sink U → U → U → Asked → Status → Type 0
 Says O old new ask Done = (text : List ℕ) × IsAnswerTo ask text × ¬ IsNoTo ask text × TookWhole O old new text
 Says O old new ask No = (text : List ℕ) × IsAnswerTo ask text × IsNoTo ask text × TookWhole O old new text

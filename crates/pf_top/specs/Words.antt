@@ -16,7 +16,7 @@ use Rattle.pf_top.specs.declared.words.Request.TheVariants.{Text, Generate}
 abbrev pub word_bytes : List (String Global) → List (List ℕ)
 word_bytes words = map string_bytes words
 
--- the fraction of two words before and behind a slash, in lowest terms, with both numbers in their ranges
+-- the fraction of two words before and after a slash, in lowest terms, with both numbers in their ranges
 abbrev pub fraction_of_parts : List ℕ → List ℕ → Option Fraction
 fraction_of_parts front back = fraction_of_numbers (integer_within (neg_ℤ (pos billion)) (pos billion) (whole_of front)) (natural_within 1 billion (natural_of back))
 

@@ -6,7 +6,7 @@ use crate::trial::outcome;
 use std::alloc::Global;
 use std::test::Fail;
 
-// A graph, how the answer to `densest` begins, its catalogue, and the last price of the answer to `select` behind the
+// A graph, how the answer to `densest` begins, its catalogue, and the last price of the answer to `select` after the
 // selection up to it.
 const GRAPHS: [(&[u8], &[u8], &[u8], &[u8]); 5] = [
     (

@@ -1,4 +1,4 @@
-// Verdicts on answers behind their problems, and changes that no certificate survives. A further command adds a row to `CERTIFIED`.
+// Verdicts on answers after their problems, and changes that no certificate survives. A further command adds a row to `CERTIFIED`.
 ghost use Rattle.std.specs.Prelude.{◌<◌, length};
 
 use super::*;
@@ -122,7 +122,7 @@ fn begins(answer: &[u8], at: usize) -> bool
     at == 0 || answer[at - 1] == b' ' || answer[at - 1] == b'\n'
 }
 
-// Whether a field ends behind the place.
+// Whether a field ends after the place.
 fn ends(answer: &[u8], at: usize) -> bool
     requires { at < length answer.now }
 {
@@ -179,7 +179,7 @@ fn push_replaced(
     Ok(())
 }
 
-// Whether this is the verdict on the answer behind the problem.
+// Whether this is the verdict on the answer after the problem.
 fn is_verdict(
     alloc: Global,
     name: &str,

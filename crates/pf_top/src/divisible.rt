@@ -29,7 +29,7 @@ impl Model for Divisible {
 }
 
 impl Divisible {
-    /// Reads the graph, and leaves the reader of lines behind its line `end`.
+    /// Reads the graph, and leaves the reader of lines after its line `end`.
     pub fn read(alloc: Global, lines: &mut Lines<'_>) -> Result<Divisible, ReadBad>
         ensures judged { Agrees (problem_of_lines (graph Partitions) (lines_left lines.old))
             (λ p. record { problem = p; rest = lines.new.rest; line = lines.new.number }) result }

@@ -49,7 +49,7 @@ fn calls_for(length: usize, piece: usize) -> usize
     (length / piece + usize::from(length % piece != 0)).saturating_add(1)
 }
 
-// The problem with the answer behind it.
+// The problem with the answer after it.
 fn joined(alloc: Global, problem: &[u8], answer: &[u8]) -> Result<Vec<u8>, AllocError> {
     let mut text = Vec::from_slice(alloc, problem)?;
     text.extend_from_slice(answer)?;

@@ -67,7 +67,7 @@ pub trait Job {
     // What holds of every answer that is found.
     ghost is_found: { Self → Self.Problem → Self.Answer → Type 0 };
 
-    /// Reads the problem, and leaves the reader of lines behind its line `end`.
+    /// Reads the problem, and leaves the reader of lines after its line `end`.
     fn read(&self, alloc: Global, lines: &mut Lines<'_>) -> Result<Self::Problem, ReadBad>
         ensures judged { Agrees ((job_of (row_of self.now)).read (lines_left lines.old))
             (λ p. record { problem = problem_of self.now p; rest = lines.new.rest; line = lines.new.number }) result };
@@ -93,7 +93,7 @@ pub trait Job {
         ensures { Adds out.old out.new (text_of self.now problem.now answer.now) result };
 }
 
-// The problem that the lines give. The reader is left behind the line `end`.
+// The problem that the lines give. The reader is left after the line `end`.
 fn read_problem<T: Job>(job: &T, alloc: Global, lines: &mut Lines<'_>) -> Result<T::Problem, Stop>
     ensures read { IfOk result (λ p. IsReadTo (T.row_of job.now) lines.old lines.new (T.problem_of job.now p)) }
     ensures refused { (refusal : Refusal) → result ≡ Err (Stop.Refused refusal) → IsBadText (T.row_of job.now) lines.old refusal }
@@ -105,7 +105,7 @@ fn read_problem<T: Job>(job: &T, alloc: Global, lines: &mut Lines<'_>) -> Result
     }
 }
 
-// The problem of a text with nothing behind it.
+// The problem of a text with nothing after it.
 fn read_alone<T: Job>(job: &T, alloc: Global, bytes: &[u8]) -> Result<T::Problem, Stop>
     requires short { length bytes.now ≤ 2 ^ 29 }
     ensures read { IfOk result (λ p. IsProblemOf (T.row_of job.now) bytes.now (T.problem_of job.now p)) }
@@ -199,7 +199,7 @@ fn verdict_status(holds: bool) -> Status
     if holds { Status::Done } else { Status::No }
 }
 
-/// The verdict on the text behind the problem.
+/// The verdict on the text after the problem.
 pub fn check<T: Checked, O: Sink>(job: &T, alloc: Global, bytes: &[u8], out: &mut O) -> Status
     requires short { length bytes.now ≤ 2 ^ 29 }
     ensures { IsEnd O.Sink out.old out.new (check (T.row_of job.now)) bytes.now result }

@@ -112,7 +112,7 @@ fn obey<S: Source, O: Sink>(alloc: Global, request: &Request, source: &mut S, ou
 /// - `Usage`: exactly where the words are no command. The source is left as it was.
 /// - `Refused`: the text is refused, or what the command asks of its problem. This is the first reason against it.
 /// - `ReadFault`: only where the source's count of faults rose in this call.
-/// - `WriteFault`: only where the count of `out` rose in this call. `out` took a front of the text of a right answer.
+/// - `WriteFault`: only where the count of `out` rose in this call. `out` took a prefix of the text of a right answer.
 /// - `NoMemory`: memory was not found, wherever it is taken. With this status, and with `Usage`, `Refused` and
 ///   `ReadFault`, `out` is left as it was.
 ///

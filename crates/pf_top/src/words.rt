@@ -117,7 +117,7 @@ fn is_digit(byte: u8) -> bool
     (48..=57).contains(&byte)
 }
 
-// The number with one more digit behind it, if it is at most the greatest.
+// The number with one more digit after it, if it is at most the greatest.
 fn with_digit(number: u64, byte: u8, most: u64) -> Option<u64>
     requires { is_digit byte ≡ true }
     ensures { natural_within 0 most (Some (10 * number + (byte - 48))) ≡ result }

@@ -33,7 +33,7 @@ pub record IsChain (ends : List (ℕ × ℕ)) (cut : ℕ → ℕ → Bool) (plac
 pub record KeepsOthers (n : ℕ) (old : ℕ → ℕ → Bool) (new : ℕ → ℕ → Bool) (t : ℕ) : Type 0 where
   pub kept : (r : ℕ) (edge : ℕ × ℕ) → edge.0 < n → edge.1 < n → separates (old t) edge ≡ false → separates (new r) edge ≡ separates (old r) edge
 
--- some edge crosses the cut of slot t, and none behind it in the chain
+-- some edge crosses the cut of slot t, and none after it in the chain
 pub record IsLast (ends : List (ℕ × ℕ)) (cut : ℕ → ℕ → Bool) (chain : List ℕ) (t k len i : ℕ) : Type 0 where
   pub low : k ≤ i
   pub high : i < len

@@ -107,7 +107,7 @@ fn start(
 
 // Looks for an edge that crosses the cut of a free slot, from the edges in no slot on; from an edge it goes to the edges of
 // the slots whose cuts it crosses. Which of the edges in no slot comes first is a hint: one from which no way led to a free
-// slot once has none later, so it pays to begin behind the last that had one.
+// slot once has none later, so it pays to begin after the last that had one.
 pub(crate) fn search(
     ends: &[(u32, u32)],
     n: usize,

@@ -1,6 +1,0 @@
-use Rattle.std.proofs.Common.{◌≡◌}
-use Rattle.std.specs.Prelude.{map}
-use Rattle.pf_curve.proofs.whole.sides_of.Given as goal
-
-abbrev pub invariant-parts : goal.invariant-parts
-invariant-parts l = l.cuts ≡ map (λ p. p.member.side.items) l.yielded
