@@ -14,14 +14,10 @@ mod given;
 pub mod laws;
 mod outline;
 mod problem;
-#[cfg(test)]
-mod problem_tests;
 mod reading_curve;
 #[cfg(test)]
-mod reading_curve_tests;
+mod tests;
 mod writing;
-#[cfg(test)]
-mod writing_tests;
 
 pub use checking::is_certified_text;
 pub use pf_lines::{AnswerBad, ReadBad};

@@ -21,14 +21,4 @@ pub use running::run;
 pub use status::Status;
 
 #[cfg(test)]
-mod beside;
-#[cfg(test)]
-mod checks;
-#[cfg(test)]
-mod hostile;
-#[cfg(test)]
 mod tests;
-#[cfg(test)]
-mod texts;
-#[cfg(test)]
-mod trial;

@@ -1,13 +1,19 @@
 // The answers of worked problems, and the refusals of broken ones. A further command adds a table of answers, and rows to
 // `REFUSED` and `NO_COMMAND`.
+mod changed_answers;
+mod densest_by_selection;
+mod hostile;
+mod texts;
+mod trial;
+
 use super::*;
-use crate::texts::{
+use crate::tests::texts::{
     CLOSE, COMPLETE, DEAR, DEAR_DENSEST, EDGE, FALLING, FALLING_CURVE, FIVE, LIGHT,
     LIGHT_AND_HEAVY, LIGHT_AND_HEAVY_PARTITION, LIGHT_RATIO, NARROW, NARROW_SHARES, PARTS, STEEP,
     STEEP_CURVE, THREE, THREE_AT_FOUR, THREE_CURVE, TRIANGLE, TRIANGLE_STRENGTH, TWO_PAIRS,
     TWO_PAIRS_STRENGTH,
 };
-use crate::trial::{begins_so, is_answer, is_refused, outcome};
+use crate::tests::trial::{begins_so, is_answer, is_refused, outcome};
 use std::alloc::Global;
 use std::test::Fail;
 

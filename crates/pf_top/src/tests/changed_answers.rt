@@ -2,12 +2,12 @@
 ghost use Rattle.std.specs.Prelude.{◌<◌, length};
 
 use super::*;
-use crate::texts::{
+use crate::tests::texts::{
     DEAR, DEAR_DENSEST, FALLING, FALLING_CURVE, FIVE, FIVE_CERTIFICATE, LIGHT, LIGHT_AND_HEAVY,
     LIGHT_RATIO, NARROW, NARROW_SHARES, PARTS, PARTS_SELECT, STEEP, STEEP_CURVE, THREE, TRIANGLE,
     TRIANGLE_PARTITION, TRIANGLE_STRENGTH, TWO_PAIRS, TWO_PAIRS_STRENGTH,
 };
-use crate::trial::outcome;
+use crate::tests::trial::outcome;
 use pf_gen::net_text;
 use std::alloc::{AllocError, Global};
 use std::test::Fail;

@@ -2,7 +2,7 @@
 // weight and needs both ends. The greatest price at which something is bought is the greatest density, and what is bought
 // there is the greatest set of that density.
 use super::*;
-use crate::trial::outcome;
+use crate::tests::trial::outcome;
 use std::alloc::Global;
 use std::test::Fail;
 

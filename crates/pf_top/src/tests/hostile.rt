@@ -2,12 +2,12 @@
 ghost use Rattle.std.specs.Prelude.{◌<◌, ◌≤◌, length};
 
 use super::*;
-use crate::texts::{
+use crate::tests::texts::{
     COMPLETE, DEAR, DEAR_DENSEST, EDGE, FIVE, LIGHT, LIGHT_RATIO, NARROW, NARROW_SHARES, PARTS,
     PARTS_SELECT, STEEP, STEEP_CURVE, THREE, THREE_CURVE, TRIANGLE, TRIANGLE_PARTITION,
     TRIANGLE_STRENGTH,
 };
-use crate::trial::{begins_so, is_answer, is_refused, outcome, outcome_in};
+use crate::tests::trial::{begins_so, is_answer, is_refused, outcome, outcome_in};
 use std::alloc::{AllocError, Global};
 use std::test::Fail;
 
