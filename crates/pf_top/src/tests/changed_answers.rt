@@ -27,10 +27,10 @@ const CERTIFIED: [(&str, &[u8], &[u8]); 10] = [
 ];
 
 // The same, and a text that certifies nothing: a flow that leaves a node out, a breakpoint left out, nothing, and a side
-// that holds the sink; the greatest least cut in place of the smallest; the second best closure; all vertices, at the density
+// that holds the sink; the greatest least cut in place of the smallest; two equal points; the second best closure; all vertices, at the density
 // of two of them; a partition of another ratio, and one with one part; a schedule that leaves out a price; a principal
 // partition that leaves out a level; the first common level for both sources.
-const REJECTED: [(&str, &[u8], &[u8]); 12] = [
+const REJECTED: [(&str, &[u8], &[u8]); 13] = [
     (
         "curve",
         FIVE,
@@ -51,6 +51,11 @@ const REJECTED: [(&str, &[u8], &[u8]); 12] = [
         "curve",
         b"p par 3 2\ni 0 1 1 1\nn 1 s\nn 3 t\na 1 2 1 0\na 2 3 1 0\nend\n",
         b"o curve\nk 1\nb 0 0 1 1\ns 1 1 0 110\nb 1 1 1 1\nf 0 1 1\nf 1 1 1\nend\n",
+    ),
+    (
+        "curve",
+        b"p par 3 2\ni 0 1 5 1\nn 1 s\nn 3 t\na 1 2 4 1\na 2 3 4 0\nend\n",
+        b"o curve\nk 2\nb 0 0 1 4\ns 1 4 1 100\nb 1 0 1 4\ns 2 4 0 110\nb 2 5 1 4\nf 0 4 4\nf 1 4 4\nf 2 4 4\nend\n",
     ),
     ("closure", LIGHT, b"o closure\nr 5 1\ns 01\nf 0\nend\n"),
     ("densest", DEAR, b"o densest\nd 1 1\ns 111\nf 2 0\nend\n"),
