@@ -27,9 +27,9 @@ const CERTIFIED: [(&str, &[u8], &[u8]); 10] = [
 ];
 
 // The same, and a text that certifies nothing: a flow that leaves a node out, a breakpoint left out, nothing, and a side
-// that holds the sink; the greatest least cut in place of the smallest; two equal points; the second best closure; all vertices, at the density
-// of two of them; a partition of another ratio, and one with one part; a schedule that leaves out a price; a principal
-// partition that leaves out a level; the first common level for both sources.
+// that holds the sink; the greatest least cut in place of the smallest; two equal points; the second best closure; all
+// vertices, at the density of two of them; a partition of another ratio, and one with one part; a schedule that leaves out a
+// price; a principal partition that leaves out a level; the first common level for both sources.
 const REJECTED: [(&str, &[u8], &[u8]); 13] = [
     (
         "curve",
