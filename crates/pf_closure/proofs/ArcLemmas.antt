@@ -3,11 +3,8 @@ use Rattle.std.proofs.Common.{◌≡◌, ℕ, zero, suc, ◌+◌, ◌<◌, List,
 use Rattle.std.specs.Prelude.{ℤ, pos}
 use Rattle.std.proofs.lemmas.Int.{ints}
 use Rattle.std.proofs.lemmas.List.{length-map}
-use Rattle.std.proofs.Math.Nat.{eq-one_of_dvd-one}
 use Rattle.pf_model.specs.declared.AffineArc.{AffineArc}
 use Rattle.pf_model.specs.Cut.{at_arc}
-use Rattle.pf_model.specs.Fraction.{Fraction, IsLowest, lowest}
-use Rattle.pf_model.proofs.Lowest.{lowest_stays}
 use Rattle.pf_closure.specs.Reduction.{item_arcs, source_arc, sink_arc, need_arc}
 
 pub item_arcs_suc : (sink j k : ℕ) (costs weights : List ℤ) → length weights ≡ length costs → k < length costs →
@@ -24,12 +21,6 @@ item_arcs_suc sink j (suc k) (c ∷ costs) (w ∷ weights) full low =
     ap (λ l. source_arc j w ∷ (sink_arc sink j c w ∷ l)) (item_arcs_suc sink (suc j) k costs weights (omega arith) (omega arith)
     ∙ ap (λ n. item_arcs sink (suc j) (take k costs) (take k weights)
     ++ (source_arc n (at_arc weights k) ∷ (sink_arc sink n (at_arc costs k) (at_arc weights k) ∷ []))) e)
-
-whole_lowest : (p : ℤ) → IsLowest (record { p = p; q = pos 1 })
-whole_lowest p = record { alone = λ d h l. eq-one_of_dvd-one l }
-
-pub whole_is : (p : ℤ) (x : Fraction) → x ≡ lowest (record { p = p; q = pos 1 }) → x ≡ record { p = p; q = pos 1 }
-whole_is p x e = e ∙ lowest_stays (record { p = p; q = pos 1 }) (omega (arith, ints)) (whole_lowest p)
 
 pub need_arcs_suc : (needs : List (ℕ × ℕ)) (k : ℕ) → k < length needs →
     map need_arc (take (suc k) needs) ≡ map need_arc (take k needs) ++ (need_arc (get_or needs k (0, 0)) ∷ [])

@@ -83,15 +83,6 @@ fn push_needs(items: &Items, arcs: &mut Vec<AffineArc>) -> Result<(), NoMemory>
     Ok(())
 }
 
-// A whole number as a fraction.
-fn whole(p: i128) -> Rat
-    requires low { neg_ℤ (pos (2 ^ 40)) ≤ℤ p }
-    requires high { p ≤ℤ pos (2 ^ 40) }
-    ensures { result ≡ record { p = p; q = pos 1 } }
-{
-    Rat::new(p, 1)
-}
-
 /// The rising network whose least cut at a parameter of its interval, from -1000001 to 1000001, is the closure whose cost less the
 /// parameter times its weight is least. Node 0 is the source, node `i + 1` stands for item `i`, and the last node is the sink.
 ///
@@ -103,7 +94,7 @@ pub fn closure_net(alloc: Global, items: &Items) -> Result<Net, NoMemory>
     let mut arcs = Vec::new(alloc);
     push_items(sink, items, &mut arcs)?;
     push_needs(items, &mut arcs)?;
-    let low = whole(-1000001);
-    let high = whole(1000001);
+    let low = Rat::from_integer(-1000001);
+    let high = Rat::from_integer(1000001);
     Net::from_arcs(alloc, sink + 1, 0, sink, low, high, arcs)
 }

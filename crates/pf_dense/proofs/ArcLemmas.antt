@@ -2,11 +2,8 @@
 use Rattle.std.proofs.Common.{◌≡◌, ℕ, zero, suc, ◌+◌, ◌<◌, List, [], ◌∷◌, ◌++◌, length, get_or, take, refl, arith, ap, sym, ◌∙◌, add-one}
 use Rattle.std.specs.Prelude.{ℤ, ◌-ℤ◌, pos}
 use Rattle.std.proofs.lemmas.Int.{ints}
-use Rattle.std.proofs.Math.Nat.{eq-one_of_dvd-one}
 use Rattle.pf_model.specs.declared.AffineArc.{AffineArc}
 use Rattle.pf_model.specs.Cut.{at_arc}
-use Rattle.pf_model.specs.Fraction.{Fraction, IsLowest, lowest}
-use Rattle.pf_model.proofs.Lowest.{lowest_stays}
 use Rattle.pf_graph.specs.WeightedGraph.{WeightedGraph}
 use Rattle.pf_dense.specs.Reduction.{total_weight, weight_at, source_arc, sink_arc, edge_arc, vertex_arcs, edge_arcs}
 
@@ -71,8 +68,3 @@ pushed_edge ends weights k u v start old mid new a b w full low eu ev ew before 
     ∙ ap (λ x. start ++ (front ++ (edge_arc (get_or ends k (0, 0)).0 (get_or ends k (0, 0)).1 (at_arc weights k) ∷ (x ∷ [])))) there
     ∙ sym (ap (λ l. start ++ l) (edge_arcs_suc ends weights k full low)) ∙ sym (ap (λ m. start ++ edge_arcs (take m ends) (take m weights)) (add-one k))
 
-whole_lowest : (p : ℤ) → IsLowest (record { p = p; q = pos 1 })
-whole_lowest p = record { alone = λ d h l. eq-one_of_dvd-one l }
-
-pub whole_is : (p : ℤ) (x : Fraction) → x ≡ lowest (record { p = p; q = pos 1 }) → x ≡ record { p = p; q = pos 1 }
-whole_is p x e = e ∙ lowest_stays (record { p = p; q = pos 1 }) (omega (arith, ints)) (whole_lowest p)

@@ -131,15 +131,6 @@ fn push_edges(graph: &Graph, arcs: &mut Vec<AffineArc>) -> Result<(), NoMemory>
     Ok(())
 }
 
-// A whole number as a fraction.
-fn whole(p: i128) -> Rat
-    requires low { pos 0 ≤ℤ p }
-    requires high { p ≤ℤ pos (2 ^ 40) }
-    ensures { result ≡ record { p = p; q = pos 1 } }
-{
-    Rat::new(p, 1)
-}
-
 /// The network of a graph, rising, from the parameter 0 to one more than the weight of all edges. Node 0 is the source, node `v + 1`
 /// stands for vertex `v`, the last node is the sink. The vertices outside a least cut at a parameter are a set whose cost, times the
 /// parameter, is the least above its weight inside (after Goldberg 1984).
@@ -153,8 +144,8 @@ pub fn dense_net(alloc: Global, graph: &Graph) -> Result<Net, NoMemory>
     let mut arcs = Vec::new(alloc);
     push_vertices(graph, total, &weights, &mut arcs)?;
     push_edges(graph, &mut arcs)?;
-    let low = whole(0);
-    let high = whole(i128::from(total) + 1);
+    let low = Rat::from_integer(0);
+    let high = Rat::from_integer(i128::from(total) + 1);
     let sink = count + 1;
     Net::from_arcs(alloc, sink + 1, 0, sink, low, high, arcs)
 }

@@ -72,7 +72,7 @@ fn add_rest(levels: &mut Points, layers: &[i128], count: usize) -> Result<(), No
     if !has_number(layers, count) {
         return Ok(());
     }
-    add_level(levels, Rat::new(0, 1))?;
+    add_level(levels, Rat::from_integer(0))?;
     Ok(())
 }
 

@@ -5,7 +5,7 @@ use Rattle.std.specs.Bool.{Decides}
 use Rattle.std.specs.Int.{IsGcd}
 use Rattle.std.proofs.lemmas.Int.{ints, by_lt_z, unsigned_abs-mul}
 use Rattle.std.proofs.lemmas.Nat.Gcd.{IsGcd-from_mod, IsGcd-from_zero, dvd_antisymm, le_of_dvd}
-use Rattle.std.proofs.Math.Nat.{div-mul_cancel, one-dvd, mod-lt, dvd-mul_left, dvd-mul_right, mul-dvd-mul_right, dvd_of_mul-dvd-mul_right, div-le_self}
+use Rattle.std.proofs.Math.Nat.{div-mul_cancel, one-dvd, eq-one_of_dvd-one, mod-lt, dvd-mul_left, dvd-mul_right, mul-dvd-mul_right, dvd_of_mul-dvd-mul_right, div-le_self}
 use Rattle.std.proofs.Math.IntN.{negsuc-*ℤ-pos}
 use Rattle.pf_model.specs.Fraction.{Fraction, IsParameter, IsBelow, IsEqual, is_below, IsLowest, divisor_within, lowest}
 use Rattle.pf_model.proofs.Integers.{mul_comm, mul_assoc, mul_most, mul_less, mul_most_inverse}
@@ -31,6 +31,10 @@ divisor_is (suc steps) a (suc b) h =
 -- no number above 1 divides both, and 1 does
 lowest_from_gcd : (a b : ℕ) → IsGcd a b 1 → (d : ℕ) → d ∣ a → d ∣ b → d ≡ 1
 lowest_from_gcd a b h d left right = dvd_antisymm (h.2 d left right) (one-dvd d)
+
+-- a whole number is in lowest terms
+pub whole_lowest : (p : ℤ) → IsLowest (record { p = p; q = pos 1 })
+whole_lowest p = record { alone = λ d h l. eq-one_of_dvd-one l }
 
 gcd_from_lowest : (a b : ℕ) → ((d : ℕ) → d ∣ a → d ∣ b → d ≡ 1) → IsGcd a b 1
 gcd_from_lowest a b h =

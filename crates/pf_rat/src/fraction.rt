@@ -1,5 +1,5 @@
 // Fractions and lines. They share their fields, so that no product is taken twice.
-ghost use Rattle.std.specs.Prelude.{◌≡◌, ℕ, ◌<◌, ◌≤◌, ◌^◌, ℤ, pos, int_div, nat_abs, IfSome, IsNone, IsTrue, ◌↔◌, refl};
+ghost use Rattle.std.specs.Prelude.{◌≡◌, ℕ, ◌<◌, ◌≤◌, ◌^◌, ℤ, pos, neg_ℤ, ◌≤ℤ◌, int_div, nat_abs, IfSome, IsNone, IsTrue, ◌↔◌, refl};
 ghost use Rattle.std.specs.Bool.{MatchBool};
 ghost use Rattle.std.specs.Ordering.{MatchOrdering, eq_by_cmp, as_partial_cmp};
 ghost use Rattle.std.specs.Cmp.{eq_by_cmp_equiv, partial_equiv_from_equiv, partial_order_from_agreeing_total};
@@ -86,6 +86,18 @@ impl Rat {
         Rat {
             numerator: quotient(p, divisor),
             denominator: quotient(q, divisor),
+        }
+    }
+
+    /// The whole number `p`, as `p / 1`. The caller has `|p| <= 2^73`.
+    pub fn from_integer(p: i128) -> Rat
+        requires low { neg_ℤ (pos (2 ^ 73)) ≤ℤ p }
+        requires high { p ≤ℤ pos (2 ^ 73) }
+        ensures { result ≡ record { p = p; q = pos 1 } }
+    {
+        Rat {
+            numerator: p,
+            denominator: 1,
         }
     }
 

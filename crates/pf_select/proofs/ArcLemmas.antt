@@ -2,10 +2,8 @@
 use Rattle.std.proofs.Common.{◌≡◌, ℕ, zero, suc, ◌+◌, ◌<◌, List, [], ◌∷◌, ◌++◌, length, get_or, take, map, refl, true, arith, ap, sym, ◌∙◌, add-one, zero-add}
 use Rattle.std.specs.Prelude.{ℤ, ◌+ℤ◌, pos}
 use Rattle.std.proofs.lemmas.Int.{ints}
-use Rattle.std.proofs.Math.Nat.{eq-one_of_dvd-one}
 use Rattle.pf_model.specs.declared.AffineArc.{AffineArc}
-use Rattle.pf_model.specs.Fraction.{Fraction, IsLowest, lowest}
-use Rattle.pf_model.proofs.Lowest.{lowest_stays}
+use Rattle.pf_model.specs.Fraction.{Fraction}
 use Rattle.pf_net.specs.Limits.{rising}
 use Rattle.pf_select.specs.Problem.{SelectionProblem, sum_of}
 use Rattle.pf_select.specs.Reduction.{part_arc, need_arc, product_arc, part_arcs, product_arcs, sink_node, whole_gain, select_net}
@@ -65,13 +63,6 @@ pushed_product sink parts gains k j start old new a low same before step e =
     ∙ ap (λ x. start ++ (product_arcs sink parts 0 (map pos (take k gains)) ++ (x ∷ []))) here
     ∙ sym (ap (λ l. start ++ l) (product_arcs_suc sink parts 0 k gains low))
     ∙ sym (ap (λ m. start ++ product_arcs sink parts 0 (map pos (take m gains))) (add-one k))
-
--- a whole number as a fraction
-whole_lowest : (p : ℤ) → IsLowest (record { p = p; q = pos 1 })
-whole_lowest p = record { alone = λ d h l. eq-one_of_dvd-one l }
-
-pub whole_is : (p : ℤ) (x : Fraction) → x ≡ lowest (record { p = p; q = pos 1 }) → x ≡ record { p = p; q = pos 1 }
-whole_is p x e = e ∙ lowest_stays (record { p = p; q = pos 1 }) (omega (arith, ints)) (whole_lowest p)
 
 -- the network is made of these parts
 same_parts : (n n' s s' : ℕ) (l l' h h' : Fraction) (xs xs' : List AffineArc) → n ≡ n' → s ≡ s' → l ≡ l' → h ≡ h' → xs ≡ xs' →

@@ -106,14 +106,6 @@ fn whole_gain(gains: &[u32]) -> u64
     sum
 }
 
-// A whole number as a fraction.
-fn whole(number: u64) -> Rat
-    requires { number ≤ 5000000001 }
-    ensures { result ≡ record { p = pos number; q = pos 1 } }
-{
-    Rat::new(i128::from(number), 1)
-}
-
 /// The rising network whose least cut at a price, from 0 to one more than the sum of all gains, leaves out a best selection of
 /// parts. Node 0 is the source; node `i + 1` stands for part `i`; the products follow; the last node is the sink.
 pub fn select_net(alloc: Global, catalogue: &Catalogue) -> Result<Net, NoMemory>
@@ -126,7 +118,7 @@ pub fn select_net(alloc: Global, catalogue: &Catalogue) -> Result<Net, NoMemory>
     push_parts(catalogue.costs(), &mut arcs)?;
     push_needs(catalogue, &mut arcs)?;
     push_products(sink, parts, gains, &mut arcs)?;
-    let low = whole(0);
-    let high = whole(whole_gain(gains) + 1);
+    let low = Rat::from_integer(0);
+    let high = Rat::from_integer(i128::from(whole_gain(gains) + 1));
     Net::from_arcs(alloc, sink + 1, 0, sink, low, high, arcs)
 }

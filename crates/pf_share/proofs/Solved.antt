@@ -6,15 +6,14 @@ use Rattle.std.proofs.lemmas.Bool.{cases_lt}
 use Rattle.std.proofs.lemmas.Grind.{common_steps}
 use Rattle.std.proofs.lemmas.List.{length_push, get_or_push, get_or_append_left, get_or_default}
 use Rattle.std.proofs.lemmas.List.Elements.{All-get_or}
-use Rattle.std.proofs.Math.Nat.{eq-one_of_dvd-one}
 use Rattle.pf_model.specs.declared.AffineArc.{AffineArc}
-use Rattle.pf_model.specs.Fraction.{Fraction, IsLowest, lowest}
+use Rattle.pf_model.specs.Fraction.{Fraction, lowest}
 use Rattle.pf_model.specs.Answer.{IsFractionShape, IsWithinSize}
 use Rattle.pf_model.specs.Limits.{capacity_bound}
 use Rattle.pf_model.specs.Cut.{at_arc}
 use Rattle.pf_model.specs.Network.{Network}
 use Rattle.pf_model.specs.Curve.{IsCurve, point_at}
-use Rattle.pf_model.proofs.Lowest.{same_fraction, lowest_stays}
+use Rattle.pf_model.proofs.Lowest.{same_fraction, whole_lowest}
 use Rattle.pf_model.proofs.Certificate.{point_is_parameter}
 use Rattle.pf_net.specs.Limits.{rising}
 use Rattle.pf_share.specs.Problem.{ShareProblem, IsBoundedSharing, no_share, tail_of, head_of}
@@ -76,13 +75,6 @@ pushed_source p v start old new arc full low before step e =
 pub all_sources : (p : ShareProblem) (v : ℕ) (start arcs : List AffineArc) → length p.weights ≡ p.nodes → p.nodes ≤ v →
     arcs ≡ start ++ source_arcs p.nodes 0 (take v p.weights) → arcs ≡ start ++ source_arcs p.nodes 0 p.weights
 all_sources p v start arcs full done e = e ∙ ap (λ l. start ++ source_arcs p.nodes 0 l) (take_whole p.weights v (omega (arith, full, done)))
-
--- a whole number as a fraction
-whole_lowest : (n : ℤ) → IsLowest (record { p = n; q = pos 1 })
-whole_lowest n = record { alone = λ d h l. eq-one_of_dvd-one l }
-
-pub whole_is : (n : ℤ) (x : Fraction) → x ≡ lowest (record { p = n; q = pos 1 }) → x ≡ record { p = n; q = pos 1 }
-whole_is n x e = e ∙ lowest_stays (record { p = n; q = pos 1 }) (omega (arith, ints)) (whole_lowest n)
 
 -- the network is made of these parts
 same_parts : (n n' s s' t t' : ℕ) (l l' h h' : Fraction) (xs xs' : List AffineArc) → n ≡ n' → s ≡ s' → t ≡ t' → l ≡ l' → h ≡ h' → xs ≡ xs' →

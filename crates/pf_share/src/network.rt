@@ -64,15 +64,6 @@ fn push_sources(sharing: &Sharing, arcs: &mut Vec<AffineArc>) -> Result<(), NoMe
     Ok(())
 }
 
-// A whole number as a fraction.
-fn whole(number: i128) -> Rat
-    requires low { pos 0 ≤ℤ number }
-    requires high { number ≤ℤ pos 10000000000001 }
-    ensures { result ≡ record { p = number; q = pos 1 } }
-{
-    Rat::new(number, 1)
-}
-
 /// The rising network whose least cut at a level holds the nodes that sources of at most that level fill. The nodes keep their numbers,
 /// and the source follows them; the arcs keep their numbers, and one from the source to each node follows them.
 pub fn share_net(alloc: Global, sharing: &Sharing) -> Result<Net, NoMemory>
@@ -83,7 +74,7 @@ pub fn share_net(alloc: Global, sharing: &Sharing) -> Result<Net, NoMemory>
     let mut arcs = Vec::new(alloc);
     push_flows(sharing, &mut arcs)?;
     push_sources(sharing, &mut arcs)?;
-    let low = whole(0);
-    let high = whole(HIGHEST);
+    let low = Rat::from_integer(0);
+    let high = Rat::from_integer(HIGHEST);
     Net::from_arcs(alloc, nodes + 1, nodes, sink, low, high, arcs)
 }

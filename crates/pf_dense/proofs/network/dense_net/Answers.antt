@@ -16,6 +16,6 @@ from_arcs-requires c =
     let from : c.from.result ≡ total_weight g = omega (arith, ints, l, h, e, f) in
     let total : to_z mir.Syntax.w128 (of_z mir.Syntax.w128 (to_z mir.Syntax.w128 (of_z mir.Syntax.w128 c.from.result) +ℤ pos 1)) ≡ total_weight g +ℤ pos 1 =
     omega (arith, ints, from, l, h, e) in
-    let same = same_net g _ c.whole-low.result c.whole-high.result _ c.push_vertices.new.arcs.items c.push_edges.new.arcs.items
-    (ap (λ n. n + 1) c.vertices-count.ensures.value) c.whole-low.ensures c.whole-high.ensures total c.in_ok-push_vertices.ensures c.in_ok-push_edges.ensures in
+    let same = same_net g _ c.from_integer-low.result c.from_integer-high.result _ c.push_vertices.new.arcs.items c.push_edges.new.arcs.items
+    (ap (λ n. n + 1) c.vertices-count.ensures.value) c.from_integer-low.ensures c.from_integer-high.ensures total c.in_ok-push_vertices.ensures c.in_ok-push_edges.ensures in
     subst IsBuilt (sym same) (net_built g c.vertices-count.ensures.limits)

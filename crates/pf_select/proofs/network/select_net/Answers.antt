@@ -14,7 +14,7 @@ from_arcs-requires c =
     let p = c.args.catalogue.now in
     let n = c.parts-parts.ensures.value in
     let count = ap (λ k. k + c.products.result + 1) n ∙ ap (λ k. length p.costs + k + 1) c.products.ensures in
-    let same = same_net p _ c.parts-parts.result c.whole_gain.result c.costs.result.now c.gains-gains.result.now c.whole-low.result c.whole-high.result
+    let same = same_net p _ c.parts-parts.result c.whole_gain.result c.costs.result.now c.gains-gains.result.now c.from_integer-low.result c.from_integer-high.result
     c.push_parts.new.arcs.items c.push_needs.new.arcs.items c.push_products.new.arcs.items n count c.costs.ensures c.gains-gains.ensures
-    c.whole-low.ensures c.whole-high.ensures c.whole_gain.ensures.sum c.in_ok-push_parts.ensures c.in_ok-push_needs.ensures c.in_ok-push_products.ensures in
+    c.from_integer-low.ensures c.from_integer-high.ensures c.whole_gain.ensures.sum c.in_ok-push_parts.ensures c.in_ok-push_needs.ensures c.in_ok-push_products.ensures in
     subst IsBuilt (sym same) (net_built p c.parts-parts.ensures.limits)
