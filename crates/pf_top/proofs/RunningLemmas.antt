@@ -17,7 +17,7 @@ use Rattle.pf_text.specs.Verdict.{verdict_text, IsRightVerdict}
 use Rattle.pf_text.proofs.VerdictLemmas.{same_verdict}
 use Rattle.pf_gen.specs.Right.{IsRightSummary}
 use Rattle.pf_top.specs.Job.{Row, job_of, ProblemOf, TextCommand, answer, check, row_of, Command, reads, draws}
-use Rattle.pf_top.specs.Asked.{Asked, usage, refused, accepted, drawn, unless, refusal_behind, refusal_of, asked_of_read, asked_of_bytes, asked, command_of, IsRight}
+use Rattle.pf_top.specs.Asked.{Asked, usage, refused, accepted, drawn, unless, refusal_behind, problem_refusal, asked_of_read, asked_of_bytes, asked, command_of, IsRight}
 use Rattle.pf_top.specs.Answering.{IsRefused, status_of}
 use Rattle.pf_top.specs.declared.job.Stop.{Stop}
 use Rattle.pf_top.specs.declared.job.Stop.TheVariants as Stopped
@@ -123,8 +123,8 @@ read_not_usage : (command : TextCommand) (read : Result (Accepted (ProblemOf (ro
 read_not_usage command (Err bad) = λ e. cc
 read_not_usage command (Ok read) =
     let last : accepted command read.problem read.rest ≢ usage = (λ e. cc) in
-    unless_not_usage (refusal_behind command read) (unless (refusal_of command read.problem) (accepted command read.problem read.rest))
-    (unless_not_usage (refusal_of command read.problem) (accepted command read.problem read.rest) last)
+    unless_not_usage (refusal_behind command read) (unless (problem_refusal command read.problem) (accepted command read.problem read.rest))
+    (unless_not_usage (problem_refusal command read.problem) (accepted command read.problem read.rest) last)
 
 -- a command asks for something
 asks_something : (command : TextCommand) (bytes : List ℕ) → asked_of_bytes command bytes ≢ usage

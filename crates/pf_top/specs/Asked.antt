@@ -67,9 +67,9 @@ refusal_behind (answer row) read = refusal_of_lines (lines_from (read.line + 1) 
 refusal_behind (check row) read = None
 
 -- what the command refuses of a problem
-abbrev pub refusal_of : (command : TextCommand) → ProblemOf (row_of command) → Option Refusal
-refusal_of (answer row) problem = (job_of row).refusal problem
-refusal_of (check row) problem = None
+abbrev pub problem_refusal : (command : TextCommand) → ProblemOf (row_of command) → Option Refusal
+problem_refusal (answer row) problem = (job_of row).refusal problem
+problem_refusal (check row) problem = None
 
 -- what is asked
 pub data Asked : Type 0 where
@@ -86,7 +86,7 @@ unless None next = next
 -- what a command asks of the problem that its text gives
 abbrev pub asked_of_read : (command : TextCommand) → Result (Accepted (ProblemOf (row_of command))) TextBad → Asked
 asked_of_read command (Err bad) = refused (Text bad)
-asked_of_read command (Ok read) = unless (refusal_behind command read) (unless (refusal_of command read.problem) (accepted command read.problem read.rest))
+asked_of_read command (Ok read) = unless (refusal_behind command read) (unless (problem_refusal command read.problem) (accepted command read.problem read.rest))
 
 -- what a command asks of the bytes
 abbrev pub asked_of_bytes : TextCommand → List ℕ → Asked
