@@ -1,6 +1,6 @@
 // A greatest flow for a caller that counts no steps.
 ghost use Rattle.std.specs.Prelude.{◌≡◌, ◌≢◌, ◌<◌, length, IfOk, OnErr};
-ghost use Rattle.pf_model.specs.Flow.{IsGreatest};
+ghost use Rattle.pf_model.specs.Flow.{IsPreflow, IsGreatest};
 ghost use Rattle.pf_model.specs.Residual.{HasValidLabels};
 ghost use Rattle.pf_model.specs.Digraph.{network_of};
 ghost use Rattle.pf_frame.specs.Numbers.{IsBounded};
@@ -13,8 +13,8 @@ use std::alloc::Global;
 use std::marker::Brand;
 use std::sync::ledger::{Blank, Ledger};
 
-// Starts the engine and runs it, with a counter that nobody reads.
-fn start_and_run<L: Ledger>(
+// Runs the engine from a preflow for which its labels are valid, with a counter that nobody reads.
+fn run_uncounted<L: Ledger>(
     engine: &mut Engine,
     frame: &Frame,
     caps: &[i128],
@@ -26,7 +26,8 @@ fn start_and_run<L: Ledger>(
     requires some { 0 < blank.parts }
     requires frame { IsFor engine.old frame.now }
     requires caps { IsBounded frame.now caps.now }
-    requires flow { length flow.old ≡ length frame.now.ends }
+    requires flow { IsPreflow (network engine.old frame.now caps.now) flow.old }
+    requires labels { HasValidLabels (network engine.old frame.now caps.now) flow.old engine.old.labels }
     ensures greatest { IsGreatest (network engine.old frame.now caps.now) flow.new }
     ensures labels { HasValidLabels (network engine.new frame.now caps.now) flow.new engine.new.labels }
     ensures low { AreLow engine.new.nodes engine.new.labels }
@@ -34,7 +35,6 @@ fn start_and_run<L: Ledger>(
 {
     let (book, share) = blank.open::<L>();
     let mut steps = Steps::new(book, share);
-    engine.start(frame, caps, flow);
     engine.run(frame, caps, flow, &mut steps);
 }
 
@@ -50,7 +50,23 @@ impl Engine {
         ensures low { AreLow self.new.nodes self.new.labels }
         ensures ends { KeepsEnds self.old self.new }
     {
-        start_and_run::<Brand>(self, frame, caps, flow, Blank::new(1));
+        self.start(frame, caps, flow);
+        run_uncounted::<Brand>(self, frame, caps, flow, Blank::new(1));
+    }
+
+    /// The same from a preflow within the capacities, which may be near to a greatest flow: `restart`, and then `run` with a counter
+    /// that nobody reads. `caps` and `flow` are indexed by arcs, in one unit. It takes no memory.
+    pub fn find_from(&mut self, frame: &Frame, caps: &[i128], flow: &mut [i128])
+        requires frame { IsFor self.old frame.now }
+        requires caps { IsBounded frame.now caps.now }
+        requires flow { IsPreflow (network self.old frame.now caps.now) flow.old }
+        ensures greatest { IsGreatest (network self.old frame.now caps.now) flow.new }
+        ensures labels { HasValidLabels (network self.new frame.now caps.now) flow.new self.new.labels }
+        ensures low { AreLow self.new.nodes self.new.labels }
+        ensures ends { KeepsEnds self.old self.new }
+    {
+        self.restart(frame, caps, flow);
+        run_uncounted::<Brand>(self, frame, caps, flow, Blank::new(1));
     }
 }
 
