@@ -1,15 +1,15 @@
 // Pieces of a text with one spelling, taken from its front.
-ghost use Rattle.std.specs.Prelude.{◌≡◌, ◌++◌, ◌∷◌, [], ◌≤ℤ◌, ◌≤◌, ◌^◌, ℕ, ℤ, Bool, List, length, map, pos, ◌-◌, IfOk, IfSome, IfNone, MatchResult};
+ghost use Rattle.std.specs.Prelude.{◌≡◌, ◌++◌, ◌∷◌, [], ◌≤ℤ◌, ◌≤◌, ◌^◌, ℕ, ℤ, Bool, List, length, map, pos, ◌-◌, All, IfOk, IfErr, IfSome, IfNone, MatchResult};
 ghost use Rattle.std.specs.Fmt.{decimal, signed_decimal};
 ghost use Rattle.pf_model.specs.Fraction.{Fraction, IsBoundedFraction, IsLowest};
 ghost use Rattle.pf_model.specs.Answer.{IsFractionShape, IsWithinSize};
 ghost use Rattle.pf_text.specs.Spelling.{side_text, spaced, rest_of_line, fraction_text, numbers_text, head_text, row_line, fraction_line, side_line, label_line};
-ghost use Rattle.pf_lines.specs.Taking.{Passes, Stops, Takes, IsExcused, IsRow, AreLabels, IsValued, valued_line};
+ghost use Rattle.pf_lines.specs.Taking.{Passes, Stops, Takes, IsExcused, IsRow, IsFlowRow, rows_text, AreLabels, IsValued, valued_line};
 ghost use Rattle.pf_lines.specs.declared.taking.Valued.{Valued};
 
 use crate::errors::AnswerBad;
 use crate::exact::Exact;
-use pf_frame::{Numbers, Side};
+use pf_frame::{FlowTable, Numbers, Side};
 use pf_rat::Rat;
 use std::alloc::Global;
 
@@ -145,7 +145,7 @@ pub fn take_head(text: &mut Exact<'_>, word: &[u8], indices: &[usize]) -> Result
     Ok(())
 }
 
-/// A line of so many numbers from `min` to `max`, as `f F1 .. FM`, `f J F1 .. FM` and `r J R X1 .. XM`.
+/// A line of so many numbers from `min` to `max`, as `m M1 .. MN`.
 pub fn take_row(
     alloc: Global,
     word: &[u8],
@@ -164,6 +164,51 @@ pub fn take_row(
     let numbers = take_numbers(alloc, width, min, max, text)?;
     take_word(text, b"\n")?;
     Ok(numbers)
+}
+
+// The least and the greatest number of a flow.
+const LEAST: i128 = 1 - (1 << 104);
+
+const GREATEST: i128 = (1 << 104) - 1;
+
+/// A line of so many numbers, each of a size below `2^104`, as `f F1 .. FM`, `f J F1 .. FM` and `r J R X1 .. XM`.
+pub fn take_flow_row(
+    alloc: Global,
+    word: &[u8],
+    indices: &[usize],
+    width: usize,
+    text: &mut Exact<'_>,
+) -> Result<Numbers, AnswerBad>
+    ensures taken { IfOk result (λ flow. text.old ≡ row_line word.now indices.now flow ++ text.new) }
+    ensures shape { IfOk result (IsFlowRow width) }
+    ensures found { (flow : List ℤ) (rest : List ℕ) → IsFlowRow width flow
+        → text.old ≡ row_line word.now indices.now flow ++ rest → Takes flow rest result text.new }
+{
+    take_row(alloc, word, indices, width, LEAST, GREATEST, text)
+}
+
+/// So many such lines, with the word, and numbered one after the other from `first` on.
+pub fn take_flow_rows(
+    alloc: Global,
+    word: &[u8],
+    first: usize,
+    width: usize,
+    count: usize,
+    text: &mut Exact<'_>,
+) -> Result<FlowTable, AnswerBad>
+    requires { first ≤ 1 }
+    ensures taken { IfOk result (λ flows. text.old ≡ rows_text word.now first flows ++ text.new) }
+    ensures count { IfOk result (λ flows. length flows ≡ count) }
+    ensures shape { IfOk result (All (IsFlowRow width)) }
+    ensures found { (flows : List (List ℤ)) (rest : List ℕ) → length flows ≡ count → All (IsFlowRow width) flows
+        → text.old ≡ rows_text word.now first flows ++ rest → Takes flows rest result text.new }
+{
+    let mut flows = FlowTable::new(alloc);
+    'flows: for j in 0..count {
+        let flow = take_flow_row(alloc, word, &[first + j], width, text)?;
+        flows.push(flow)?;
+    }
+    Ok(flows)
 }
 
 /// A line of a fraction, as `d P Q`, `l J P Q` and `x ID P Q`.
@@ -312,4 +357,15 @@ pub fn take_count(text: &mut Exact<'_>, word: &[u8], least: usize) -> Result<usi
     let count = take_number(text, least as i128, most as i128)?;
     take_word(text, b"\n")?;
     Ok(count as usize)
+}
+
+/// The end: nothing is left.
+pub fn take_end(text: &Exact<'_>) -> Result<(), AnswerBad>
+    ensures taken { IfOk result (λ _. text.now ≡ []) }
+    ensures found { text.now ≡ [] → IfErr result IsExcused }
+{
+    if text.rest().is_empty() {
+        return Ok(());
+    }
+    Err(AnswerBad::NotText)
 }
