@@ -1,5 +1,5 @@
 // A network, and how it is built.
-ghost use Rattle.std.specs.Prelude.{◌≡◌, ◌≢◌, ◌<◌, ◌≤◌, length, get_or, map, pos, IfOk, IsTrue, ◌↔◌, Some, None, Err};
+ghost use Rattle.std.specs.Prelude.{◌≡◌, ◌≢◌, ◌<◌, ◌≤◌, length, slice_index_or, map, pos, IfOk, IsTrue, ◌↔◌, Some, None, Err};
 ghost use Rattle.pf_model.specs.declared.AffineArc.{AffineArc};
 ghost use Rattle.pf_model.specs.Network.{Network, IsInInterval, IsNetworkCut, capacity_at, cut_a, cut_b};
 ghost use Rattle.pf_model.specs.Mirror.{mirror};
@@ -290,7 +290,7 @@ impl Net {
     /// The arc of the number `i`, from 0.
     pub fn arc(&self, i: u32) -> AffineArc
         requires { i < length self.now.arcs }
-        ensures { result ≡ get_or self.now.arcs i (record { tail = 0; head = 0; a = pos 0; b = pos 0 }) }
+        ensures { result ≡ slice_index_or self.now.arcs i (record { tail = 0; head = 0; a = pos 0; b = pos 0 }) }
     {
         self.arcs[i as usize]
     }

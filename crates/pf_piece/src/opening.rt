@@ -1,5 +1,5 @@
 // The nodes and the arcs of a piece.
-ghost use Rattle.std.specs.Prelude.{◌≡◌, ℕ, ◌+◌, ◌<◌, ◌≤◌, ◌==◌, if◌then◌else◌, length, get_or, map, take, IfOk};
+ghost use Rattle.std.specs.Prelude.{◌≡◌, ℕ, ◌+◌, ◌<◌, ◌≤◌, ◌==◌, if◌then◌else◌, length, slice_index_or, map, take, IfOk};
 ghost use Rattle.pf_model.specs.Cut.{has};
 ghost use Rattle.pf_model.specs.Network.{ends_of};
 ghost use Rattle.pf_piece.specs.Piece.{AreNested, is_inner, inner_before, place, renamed};
@@ -39,7 +39,7 @@ fn write_places(small: &[bool], large: &[bool], places: &mut [u32]) -> u32
     requires large { length large.now ≡ length small.now }
     requires places { length places.old ≡ length small.now }
     ensures full { length places.new ≡ length small.now }
-    ensures places { (v : ℕ) → v < length small.now → get_or places.new v 0 ≡ place small.now large.now v }
+    ensures places { (v : ℕ) → v < length small.now → slice_index_or places.new v 0 ≡ place small.now large.now v }
     ensures count { result ≡ inner_before small.now large.now (length small.now) + 2 }
 {
     let mut next = 2;
@@ -108,7 +108,7 @@ pub fn kept_of(alloc: Global, net: &Net, places: &[u32]) -> Result<Vec<u32>, NoM
 // Writes the two nodes at which the ends of each of these arcs stand.
 fn write_ends(net: &Net, places: &[u32], kept: &[u32], ends: &mut [(u32, u32)])
     requires places { length places.now ≡ net.now.nodes }
-    requires known { (k : ℕ) → k < length kept.now → get_or kept.now k 0 < length net.now.arcs }
+    requires known { (k : ℕ) → k < length kept.now → slice_index_or kept.now k 0 < length net.now.arcs }
     requires room { length ends.old ≡ length kept.now }
     ensures { ends.new ≡ map (λ i. ends_of (renamed (placed places.now) (arc_at net.now.arcs i))) kept.now }
 {
@@ -129,7 +129,7 @@ pub fn ends_at(
     kept: &[u32],
 ) -> Result<Vec<(u32, u32)>, NoMemory>
     requires places { length places.now ≡ net.now.nodes }
-    requires known { (k : ℕ) → k < length kept.now → get_or kept.now k 0 < length net.now.arcs }
+    requires known { (k : ℕ) → k < length kept.now → slice_index_or kept.now k 0 < length net.now.arcs }
     ensures { IfOk result (λ ends. ends.items ≡ map (λ i. ends_of (renamed (placed places.now) (arc_at net.now.arcs i))) kept.now) }
 {
     let mut ends = vec![in alloc; (0u32, 0u32); kept.len()]?;

@@ -1,5 +1,5 @@
 // A piece of a borrowed network.
-ghost use Rattle.std.specs.Prelude.{◌≡◌, ℕ, ◌<◌, ◌≤◌, length, get_or, IfOk};
+ghost use Rattle.std.specs.Prelude.{◌≡◌, ℕ, ◌<◌, ◌≤◌, length, slice_index_or, IfOk};
 ghost use Rattle.pf_model.specs.Cut.{has};
 ghost use Rattle.pf_model.specs.Network.{IsNetworkCut};
 ghost use Rattle.pf_net.specs.Limits.{digraph_of};
@@ -39,10 +39,10 @@ impl<'a> Model for Piece<'a> {
 
 // Writes the side that a side of the piece lifts to: each node of the network is in it where the one that stands for it is in that.
 fn write_lift(places: &[u32], piece_side: &[bool], side: &mut [bool])
-    requires nodes { (v : ℕ) → v < length places.now → get_or places.now v 0 < length piece_side.now }
+    requires nodes { (v : ℕ) → v < length places.now → slice_index_or places.now v 0 < length piece_side.now }
     requires full { length side.old ≡ length places.now }
     ensures full { length side.new ≡ length places.now }
-    ensures each { (v : ℕ) → v < length places.now → has side.new v ≡ has piece_side.now (get_or places.now v 0) }
+    ensures each { (v : ℕ) → v < length places.now → has side.new v ≡ has piece_side.now (slice_index_or places.now v 0) }
 {
     'nodes: for v in 0..places.len() {
         side[v] = piece_side[places[v] as usize];

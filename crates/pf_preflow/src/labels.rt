@@ -1,5 +1,5 @@
 // Labels are raised: to distances in the residual graph (global relabelling), and over a gap where there is one.
-ghost use Rattle.std.specs.Prelude.{◌≡◌, ◌≢◌, ℕ, ◌+◌, ◌*◌, ◌<◌, ◌≤◌, ◌^◌, length, get_or, IsTrue, slice_set};
+ghost use Rattle.std.specs.Prelude.{◌≡◌, ◌≢◌, ℕ, ◌+◌, ◌*◌, ◌<◌, ◌≤◌, ◌^◌, length, slice_index_or, IsTrue, slice_set};
 ghost use Rattle.pf_model.specs.Cut.{IsProper};
 ghost use Rattle.pf_model.specs.Residual.{HasValidLabels};
 ghost use Rattle.pf_preflow.specs.Engine.{AreLow};
@@ -18,8 +18,8 @@ use std::sync::ledger::Ledger;
 pub fn relabel<L: Ledger>(labels: &mut [u32], v: u32, least: u32, steps: &mut Steps<L>)
     requires node { v < length labels.old }
     requires small { least < 2 ^ 20 }
-    ensures up { get_or labels.old v 0 < least + 1 → (labels.new ≡ slice_set labels.old v (least + 1)) × (steps.new ≡ steps.old + 1) }
-    ensures stays { least + 1 ≤ get_or labels.old v 0 → (labels.new ≡ labels.old) × (steps.new ≡ steps.old) }
+    ensures up { slice_index_or labels.old v 0 < least + 1 → (labels.new ≡ slice_set labels.old v (least + 1)) × (steps.new ≡ steps.old + 1) }
+    ensures stays { least + 1 ≤ slice_index_or labels.old v 0 → (labels.new ≡ labels.old) × (steps.new ≡ steps.old) }
 {
     if labels[v as usize] < least + 1 {
         labels[v as usize] = least + 1;
@@ -163,7 +163,7 @@ fn count_labels(labels: &[u32], counts: &mut [u32]) {
 
 /// Counts that one node was relabelled. Whether, as counted, it left a gap: no node has its earlier label.
 pub fn leaves_gap(counts: &mut [u32], from: u32, to: u32) -> bool
-    ensures { IsTrue result → get_or counts.new from 0 ≡ 0 }
+    ensures { IsTrue result → slice_index_or counts.new from 0 ≡ 0 }
 {
     let from = from as usize;
     let to = to as usize;

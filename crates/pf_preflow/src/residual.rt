@@ -1,5 +1,5 @@
 // Residual arcs, along which a node can push: forward along an arc with capacity left, or back along one that carries flow.
-ghost use Rattle.std.specs.Prelude.{◌≡◌, ◌≢◌, ℕ, ◌+◌, ◌*◌, ◌<◌, ◌≤◌, ◌<ℤ◌, pos, length, get_or, IsTrue, ◌↔◌, if◌then◌else◌, MatchOption, ◌⊎◌};
+ghost use Rattle.std.specs.Prelude.{◌≡◌, ◌≢◌, ℕ, ◌+◌, ◌*◌, ◌<◌, ◌≤◌, ◌<ℤ◌, pos, length, slice_index_or, IsTrue, ◌↔◌, if◌then◌else◌, MatchOption, ◌⊎◌};
 ghost use Rattle.pf_model.specs.Digraph.{arcs_out, arcs_in};
 ghost use Rattle.pf_preflow.specs.Engine.{AreLow};
 ghost use Rattle.pf_preflow.specs.Network.{flow_network};
@@ -128,8 +128,8 @@ struct Best {
 fn lower(labels: &[u32], v: u32, best: Best, w: u32, place: usize) -> Best
     requires { w < length labels.now }
     ensures most { result.label ≤ best.label }
-    ensures least { w ≢ v → result.label ≤ get_or labels.now w 0 }
-    ensures either { (result ≡ best) ⊎ ((w ≢ v) × (result ≡ record { label = get_or labels.now w 0; place = place })) }
+    ensures least { w ≢ v → result.label ≤ slice_index_or labels.now w 0 }
+    ensures either { (result ≡ best) ⊎ ((w ≢ v) × (result ≡ record { label = slice_index_or labels.now w 0; place = place })) }
 {
     let label = labels[w as usize];
     if w != v && label < best.label {
