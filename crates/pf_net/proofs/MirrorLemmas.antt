@@ -1,6 +1,6 @@
 -- The mirror of a network that is built is within the limits too.
 use Rattle.std.proofs.Common.{◌≡◌, ℕ, ◌<◌, List, length, map, refl, arith, sym, ◌∙◌, subst}
-use Rattle.std.specs.Prelude.{ℤ, neg_ℤ, nat_abs, All}
+use Rattle.std.specs.Prelude.{ℤ, neg_ℤ, nat_abs}
 use Rattle.std.proofs.lemmas.Int.{ints}
 use Rattle.std.proofs.lemmas.List.{length-map, get_or-map}
 use Rattle.pf_model.specs.declared.AffineArc.{AffineArc}

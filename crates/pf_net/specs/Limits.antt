@@ -1,5 +1,5 @@
 -- The limits within which a network's numbers stay.
-use Rattle.std.specs.Prelude.{◌≡◌, ℕ, ◌≤◌, ◌^◌, ◌≤ℤ◌, ◌*ℤ◌, neg_ℤ, pos, List, length, All, map}
+use Rattle.std.specs.Prelude.{ℕ, ◌≤◌, ◌≤ℤ◌, ◌*ℤ◌, neg_ℤ, pos, List, length, All, map}
 use Rattle.pf_model.specs.declared.AffineArc.{AffineArc}
 use Rattle.pf_model.specs.declared.Sense.{Sense}
 use Rattle.pf_model.specs.declared.Sense.TheVariants.{Rising, Falling}
@@ -7,6 +7,7 @@ use Rattle.pf_model.specs.Fraction.{Fraction}
 use Rattle.pf_model.specs.Limits.{most_nodes, most_arcs, most_constant, most_slope, most_end}
 use Rattle.pf_model.specs.Digraph.{Digraph}
 use Rattle.pf_model.specs.Network.{Network, IsMonotone, ends_of}
+use Rattle.pf_net.specs.declared.outline.Outline.{Outline}
 
 pub record IsSmallArc (arc : AffineArc) : Type 0 where
   pub a_low : neg_ℤ (pos most_constant) ≤ℤ arc.a
@@ -29,6 +30,10 @@ pub record IsWithinLimits (net : Network) : Type 0 where
 -- the network of this sense and of these numbers
 abbrev pub with_sense : Sense → ℕ → ℕ → ℕ → Fraction → Fraction → List AffineArc → Network
 with_sense sense n s t low high arcs = record { nodes = n; source = s; sink = t; sense = sense; low = low; high = high; arcs = arcs }
+
+-- the network of this outline and these arcs
+abbrev pub outlined : Outline → List AffineArc → Network
+outlined outline arcs = with_sense outline.sense outline.nodes outline.source outline.sink outline.low outline.high arcs
 
 -- the rising network of these numbers, and the falling one
 abbrev pub rising : ℕ → ℕ → ℕ → Fraction → Fraction → List AffineArc → Network

@@ -1,5 +1,5 @@
 -- The first reason against a network.
-use Rattle.std.specs.Prelude.{ℕ, suc, ◌^◌, pos, ◌*ℤ◌, Bool, ◌||◌, not, ◌==◌, nat_lt, nat_le, int_lt, nat_abs, if◌then◌else◌, List, [], ◌∷◌, length, Option, Some, None}
+use Rattle.std.specs.Prelude.{ℕ, suc, pos, ◌*ℤ◌, Bool, ◌||◌, not, ◌==◌, nat_lt, nat_le, int_lt, nat_abs, if◌then◌else◌, List, [], ◌∷◌, length, Option, Some, None}
 use Rattle.std.specs.List.{list_any}
 use Rattle.pf_model.specs.declared.AffineArc.{AffineArc}
 use Rattle.pf_model.specs.Fraction.{Fraction, is_below}

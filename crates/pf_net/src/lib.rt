@@ -7,6 +7,7 @@
 mod checks;
 mod mirrored;
 mod net;
+mod outline;
 mod sums;
 #[cfg(test)]
 mod tests;
@@ -14,4 +15,5 @@ mod tests;
 pub use checks::{capacity, keeps_rule};
 pub use mirrored::negated;
 pub use net::{Net, NetBad};
+pub use outline::Outline;
 pub use pf_model::{AffineArc, Sense};

@@ -4,11 +4,12 @@ ghost use Rattle.pf_model.specs.declared.AffineArc.{AffineArc};
 ghost use Rattle.pf_model.specs.Network.{Network, IsInInterval, IsNetworkCut, capacity_at, cut_a, cut_b};
 ghost use Rattle.pf_model.specs.Mirror.{mirror};
 ghost use Rattle.pf_frame.specs.Numbers.{IsBounded};
-ghost use Rattle.pf_net.specs.Limits.{IsBuilt, digraph_of, rising, falling, with_sense};
+ghost use Rattle.pf_net.specs.Limits.{IsBuilt, digraph_of, outlined, rising, falling};
 ghost use Rattle.pf_net.specs.Refusal.{refusal_of};
 
 use crate::checks::first_refusal;
 use crate::mirrored::{mirror_arcs, negated, turned};
+use crate::outline::Outline;
 use crate::sums::{capacities, line_of};
 use pf_frame::{Frame, NoMemory};
 use pf_model::{AffineArc, Sense};
@@ -85,25 +86,31 @@ fn ends_of_arcs(alloc: Global, arcs: &[AffineArc]) -> Result<Vec<(u32, u32)>, No
 }
 
 // The network of numbers against which there is no reason.
-fn make(
-    alloc: Global,
-    sense: Sense,
-    n: u32,
-    s: u32,
-    t: u32,
-    lo: Rat,
-    hi: Rat,
-    arcs: &[AffineArc],
-) -> Result<Net, NoMemory>
-    requires source { s < n }
-    requires sink { t < n }
-    requires none { refusal_of (with_sense sense n s t lo hi arcs.now) ≡ None }
-    ensures { IfOk result (λ net. net ≡ with_sense sense n s t lo hi arcs.now) }
+fn make(alloc: Global, outline: Outline, arcs: &[AffineArc]) -> Result<Net, NoMemory>
+    requires source { outline.source < outline.nodes }
+    requires sink { outline.sink < outline.nodes }
+    requires none { refusal_of (outlined outline arcs.now) ≡ None }
+    ensures { IfOk result (λ net. net ≡ outlined outline arcs.now) }
 {
-    let (low, high) = (lo.q(), hi.q());
+    let (low, high) = (outline.low.q(), outline.high.q());
     prove!(low >= 1 && high >= 1);
     let arcs = Vec::from_slice(alloc, arcs)?;
-    Net::with_sense(alloc, sense, n, s, t, lo, hi, arcs)
+    Net::from_outline(alloc, outline, arcs)
+}
+
+// The network of this outline and these arcs, or the first reason against it.
+fn judged(alloc: Global, outline: Outline, arcs: &[AffineArc]) -> Result<Net, NetBad>
+    requires source { outline.source < outline.nodes }
+    requires sink { outline.sink < outline.nodes }
+    ensures given { IfOk result (λ net. net ≡ outlined outline arcs.now) }
+    ensures accepted { IfOk result (λ _. refusal_of (outlined outline arcs.now) ≡ None) }
+    ensures refused { (bad : NetBad) → result ≡ Err bad → bad ≢ NetBad.NoMemory
+        → refusal_of (outlined outline arcs.now) ≡ Some bad }
+{
+    if let Some(bad) = first_refusal(&outline, arcs) {
+        return Err(bad);
+    }
+    Ok(make(alloc, outline, arcs)?)
 }
 
 impl Net {
@@ -127,11 +134,15 @@ impl Net {
         ensures refused { (bad : NetBad) → result ≡ Err bad → bad ≢ NetBad.NoMemory
             → refusal_of (rising n s t lo hi arcs.now) ≡ Some bad }
     {
-        let sense = Sense::Rising;
-        if let Some(bad) = first_refusal(sense, n, s, t, &lo, &hi, arcs) {
-            return Err(bad);
-        }
-        Ok(make(alloc, sense, n, s, t, lo, hi, arcs)?)
+        let outline = Outline {
+            sense: Sense::Rising,
+            nodes: n,
+            source: s,
+            sink: t,
+            low: lo,
+            high: hi,
+        };
+        judged(alloc, outline, arcs)
     }
 
     /// A falling network of `n` nodes with the source `s`, the sink `t`, the interval from `lo` to `hi` and these arcs, or
@@ -153,11 +164,15 @@ impl Net {
         ensures refused { (bad : NetBad) → result ≡ Err bad → bad ≢ NetBad.NoMemory
             → refusal_of (falling n s t lo hi arcs.now) ≡ Some bad }
     {
-        let sense = Sense::Falling;
-        if let Some(bad) = first_refusal(sense, n, s, t, &lo, &hi, arcs) {
-            return Err(bad);
-        }
-        Ok(make(alloc, sense, n, s, t, lo, hi, arcs)?)
+        let outline = Outline {
+            sense: Sense::Falling,
+            nodes: n,
+            source: s,
+            sink: t,
+            low: lo,
+            high: hi,
+        };
+        judged(alloc, outline, arcs)
     }
 
     /// The rising network of numbers that are known to be one, within the limits. The arcs are handed over, and neither
@@ -174,34 +189,38 @@ impl Net {
         requires { IsBuilt (rising n s t lo hi arcs.items) }
         ensures { IfOk result (λ net. net ≡ rising n s t lo hi arcs.items) }
     {
-        Net::with_sense(alloc, Sense::Rising, n, s, t, lo, hi, arcs)
+        let sense = Sense::Rising;
+        let outline = Outline {
+            sense,
+            nodes: n,
+            source: s,
+            sink: t,
+            low: lo,
+            high: hi,
+        };
+        Net::from_outline(alloc, outline, arcs)
     }
 
-    /// The network of this sense and of numbers that are known to be one, within the limits. The arcs are handed over, and
+    /// The network of this outline and of arcs that are known to make one with it, within the limits. The arcs are handed over, and
     /// neither judged nor copied.
-    pub fn with_sense(
+    pub fn from_outline(
         alloc: Global,
-        sense: Sense,
-        n: u32,
-        s: u32,
-        t: u32,
-        lo: Rat,
-        hi: Rat,
+        outline: Outline,
         arcs: Vec<AffineArc>,
     ) -> Result<Net, NoMemory>
-        requires { IsBuilt (with_sense sense n s t lo hi arcs.items) }
-        ensures { IfOk result (λ net. net ≡ with_sense sense n s t lo hi arcs.items) }
+        requires { IsBuilt (outlined outline arcs.items) }
+        ensures { IfOk result (λ net. net ≡ outlined outline arcs.items) }
     {
         let ends = ends_of_arcs(alloc, arcs.as_slice())?;
-        let frame = Frame::from_ends(alloc, n, ends)?;
+        let frame = Frame::from_ends(alloc, outline.nodes, ends)?;
         Ok(Net {
             frame,
             arcs,
-            s,
-            t,
-            sense,
-            lo,
-            hi,
+            s: outline.source,
+            t: outline.sink,
+            sense: outline.sense,
+            lo: outline.low,
+            hi: outline.high,
         })
     }
 
@@ -216,16 +235,15 @@ impl Net {
         let lo = negated(self.hi());
         let hi = negated(self.lo());
         let nodes = frame.nodes();
-        Net::with_sense(
-            alloc,
+        let outline = Outline {
             sense,
             nodes,
-            self.source(),
-            self.sink(),
-            lo,
-            hi,
-            arcs,
-        )
+            source: self.source(),
+            sink: self.sink(),
+            low: lo,
+            high: hi,
+        };
+        Net::from_outline(alloc, outline, arcs)
     }
 
     /// The nodes and arcs, without capacities. What holds of every network is told here.
