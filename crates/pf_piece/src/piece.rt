@@ -9,7 +9,7 @@ ghost use Rattle.pf_piece.specs.Held.{arc_at};
 use crate::inner::inner_arcs;
 use crate::opening::{ends_at, kept_of, places_of};
 use pf_frame::{Frame, NoMemory};
-use pf_net::{AffineArc, Net};
+use pf_net::{AffineArc, Net, Outline};
 use std::alloc::Global;
 use std::marker::Model;
 
@@ -136,7 +136,14 @@ impl<'a> Piece<'a> {
     {
         let arcs = inner_arcs(alloc, self)?;
         let nodes = self.node_count();
-        let (lo, hi) = (*self.net.lo(), *self.net.hi());
-        Net::with_sense(alloc, self.net.sense(), nodes, 0, 1, lo, hi, arcs)
+        let outline = Outline {
+            sense: self.net.sense(),
+            nodes,
+            source: 0,
+            sink: 1,
+            low: *self.net.lo(),
+            high: *self.net.hi(),
+        };
+        Net::from_outline(alloc, outline, arcs)
     }
 }

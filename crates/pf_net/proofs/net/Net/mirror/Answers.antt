@@ -1,6 +1,6 @@
 use Rattle.std.proofs.Common.{◌≡◌, ap, subst, sym, ◌∙◌, map, IfOk}
 use Rattle.pf_model.specs.Network.{Network}
-use Rattle.pf_model.specs.Mirror.{negative, other_sense, mirror_arc, mirror}
+use Rattle.pf_model.specs.Mirror.{negative, other_sense, mirror_arc}
 use Rattle.pf_net.specs.Limits.{IsBuilt}
 use Rattle.pf_net.proofs.MirrorLemmas.{mirror_built, mirror_named}
 use Rattle.pf_net.proofs.net.Net.mirror.Goals as goal
