@@ -1,7 +1,7 @@
 // Greatest flows and smallest least cuts of one network, with one engine and one set of working room for all of them.
 ghost use Rattle.std.specs.Prelude.{◌≡◌, ◌<◌, length, map, IfOk};
 ghost use Rattle.pf_model.specs.Cut.{IsSmallestLeast};
-ghost use Rattle.pf_model.specs.Flow.{IsFlow, IsGreatest, IsPreflow};
+ghost use Rattle.pf_model.specs.Flow.{IsFlow, IsGreatest};
 ghost use Rattle.pf_model.specs.Digraph.{network_of};
 ghost use Rattle.pf_model.specs.Network.{IsInInterval, capacity_at, network_at};
 ghost use Rattle.pf_model.specs.Curve.{IsPoint};
@@ -9,19 +9,16 @@ ghost use Rattle.pf_model.specs.Answer.{IsFlowShape, IsPointShape};
 ghost use Rattle.pf_frame.specs.Numbers.{IsBounded};
 ghost use Rattle.pf_frame.specs.Scratch.{Serves, KeepsPlaces};
 ghost use Rattle.pf_net.specs.Limits.{digraph_of};
-ghost use Rattle.pf_preflow.specs.Engine.{IsFor, KeepsEnds, network};
 ghost use Rattle.pf_curve.specs.Finding.{IsEngineOf};
 
 use crate::point::Point;
 use pf_carry::carry;
-use pf_frame::{Frame, NoMemory, Numbers, Scratch, Side, reach};
+use pf_frame::{NoMemory, Numbers, Scratch, Side, reach};
 use pf_net::Net;
 use pf_preflow::Engine;
 use pf_rat::Rat;
-use pf_steps::Steps;
 use std::alloc::Global;
-use std::marker::{Brand, Model};
-use std::sync::ledger::{Blank, Ledger};
+use std::marker::Model;
 
 /// All the room that flows and cuts of one network need. Contracts see the network; what stands in the room has no meaning
 /// between calls, and no call but `make` and `into_point` takes memory.
@@ -63,29 +60,6 @@ fn write_flow(net: &Net, at: &Rat, engine: &mut Engine, caps: &mut [i128], flow:
     engine.find(frame, caps, flow);
 }
 
-// Makes a preflow within the capacities a greatest flow, with a counter that nobody reads.
-fn go_on<L: Ledger>(
-    engine: &mut Engine,
-    frame: &Frame,
-    caps: &[i128],
-    flow: &mut [i128],
-    blank: Blank,
-)
-    requires name { blank.name ≡ L.name }
-    requires parts { blank.parts ≡ L.parts }
-    requires some { 0 < blank.parts }
-    requires frame { IsFor engine.old frame.now }
-    requires caps { IsBounded frame.now caps.now }
-    requires flow { IsPreflow (network engine.old frame.now caps.now) flow.old }
-    ensures greatest { IsGreatest (network engine.old frame.now caps.now) flow.new }
-    ensures ends { KeepsEnds engine.old engine.new }
-{
-    let (book, share) = blank.open::<L>();
-    let mut steps = Steps::new(book, share);
-    engine.restart(frame, caps, flow);
-    engine.run(frame, caps, flow, &mut steps);
-}
-
 // Makes a flow at one parameter of the interval a greatest flow at another, and writes the capacities there.
 fn move_flow(
     net: &Net,
@@ -112,7 +86,7 @@ fn move_flow(
     let to_unit = to.q();
     net.caps_at(to, caps);
     carry(frame, s, t, from_unit, to_unit, caps, flow);
-    go_on::<Brand>(engine, frame, caps, flow, Blank::new(1));
+    engine.find_from(frame, caps, flow);
 }
 
 // Writes a greatest flow at a parameter of the interval, and the smallest least cut there.

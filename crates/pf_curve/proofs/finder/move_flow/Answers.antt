@@ -9,12 +9,12 @@ carry-requires-clause-flow c =
     carriable c.args.net.now c.args.from.now c.frame-frame.result.now (to_z w128 (of_z w128 c.q-from_unit.result)) c.args.flow.now c.frame-frame.ensures.built c.requires.from
     c.frame-frame.ensures.frame (unit_back c.args.from.now c.q-from_unit.result c.q-from_unit.ensures.value c.q-from_unit.ensures.bounds) c.requires.flow
 
-pub go_on-requires-clause-flow : goal.go_on-requires-clause-flow
-go_on-requires-clause-flow c =
+pub find_from-requires-clause-flow : goal.find_from-requires-clause-flow
+find_from-requires-clause-flow c =
     preflow_here c.args.engine.now c.frame-frame.result.now c.source-s.result c.sink-t.result c.args.net.now.source c.args.net.now.sink c.caps_at.new.caps c.carry.new.flow
     c.source-s.ensures c.sink-t.ensures c.requires.engine.source c.requires.engine.sink c.carry.ensures.preflow
 
 pub returns-clause-shape : goal.returns-clause-shape
 returns-clause-shape c =
-    flow_found c.args.net.now c.args.to.now c.frame-frame.result.now c.args.engine.now.source c.args.engine.now.sink c.caps_at.new.caps c.go_on.new.flow
-    c.frame-frame.ensures.frame c.requires.engine.source c.requires.engine.sink c.caps_at.ensures.capacities c.caps_at.ensures.bounded c.go_on.ensures.greatest
+    flow_found c.args.net.now c.args.to.now c.frame-frame.result.now c.args.engine.now.source c.args.engine.now.sink c.caps_at.new.caps c.find_from.new.flow
+    c.frame-frame.ensures.frame c.requires.engine.source c.requires.engine.sink c.caps_at.ensures.capacities c.caps_at.ensures.bounded c.find_from.ensures.greatest
