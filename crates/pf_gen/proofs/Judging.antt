@@ -1,5 +1,5 @@
 -- The judgement of a text, one line at a time, for every kind of text.
-use Rattle.std.proofs.Common.{◌≡◌, ℕ, ◌+◌, ◌≤◌, Bool, true, false, eqb, ◌&&◌, List, [], ◌∷◌, Option, Some, Ok, refl}
+use Rattle.std.proofs.Common.{◌≡◌, ℕ, ◌+◌, ◌≤◌, true, false, eqb, ◌&&◌, List, ◌∷◌, Some, Ok, refl}
 use Rattle.std.specs.Prelude.{ℤ, int_le, codes, if◌then◌else◌}
 use Rattle.std.proofs.lemmas.Bool.{le-ltb}
 use Rattle.pf_text.specs.Lines.{Line, lines_from}

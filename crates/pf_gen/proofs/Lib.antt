@@ -3,3 +3,4 @@ mod Judging
 pub mod Accepted
 pub mod DrawnArcs
 pub mod SummaryLemmas
+pub mod SameAnswers

@@ -14,3 +14,4 @@ pub mod Joining
 pub mod Whole
 pub mod WorkedOut
 pub mod TextRows
+pub mod SameAnswers

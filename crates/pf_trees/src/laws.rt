@@ -1,11 +1,17 @@
-//! The law of trees and partitions, and graphs worked by hand. Each is the contract of a function that does nothing.
+//! Laws of trees and partitions and of their texts, and graphs worked by hand. Each is the contract of a function that does nothing.
 
-ghost use Rattle.pf_trees.specs.Laws.{NotBoth};
+ghost use Rattle.pf_trees.specs.Laws.{NotBoth, TreesFromText};
 ghost use Rattle.pf_trees.specs.Worked.{AreTwoTrees, FirstTree, SecondTree, CircleIsNoTree, SixCross, FourParts, ThreeTreesBlocked, TriangleBlocked, TwoPartsLetThrough, PairIsTwoTrees, PairIsNotThree};
 
 /// A graph has not both `k` spanning trees without a common edge and a partition that blocks them.
 pub fn not_both()
     ensures { NotBoth }
+{}
+
+/// The text of an answer of the right shape is the text of no other one: of none that tells of trees where it tells of a partition,
+/// and of none with another number or another label.
+pub fn texts_determine_answers()
+    ensures { TreesFromText }
 {}
 
 /// All edges between four vertices: two trees, and no three.
