@@ -1,9 +1,8 @@
 -- What scaling and trimming leave.
-use Rattle.std.proofs.Common.{◌≡◌, ◌≢◌, ℕ, ◌<◌, List, length, arith, sym, ◌∙◌, subst}
-use Rattle.std.specs.Prelude.{ℤ, ◌≤ℤ◌, pos}
+use Rattle.std.proofs.Common.{◌≡◌, ℕ, ◌<◌, List, length, arith, subst}
+use Rattle.std.specs.Prelude.{ℤ, ◌≤ℤ◌}
 use Rattle.std.proofs.lemmas.Int.{ints}
 use Rattle.pf_model.specs.Cut.{at_arc}
-use Rattle.pf_model.specs.Flow.{IsPreflow}
 use Rattle.pf_model.specs.Digraph.{Digraph, network_of}
 use Rattle.pf_frame.specs.Numbers.{IsBounded}
 use Rattle.pf_carry.specs.Carry.{IsCarriable, IsCarried, floored}

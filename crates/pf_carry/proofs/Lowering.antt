@@ -1,11 +1,11 @@
 -- One number is lowered, and what its ends give.
-use Rattle.std.proofs.Common.{◌≡◌, ◌≢◌, ℕ, suc, ◌+◌, ◌*◌, ◌^◌, ◌<◌, ◌≤◌, List, [], ◌∷◌, length, get_or, set, refl, Bool, true, false, cond, eqb, arith, ap, sym, ◌∙◌, inl, inr, subst}
-use Rattle.std.specs.Prelude.{ℤ, ◌+ℤ◌, ◌-ℤ◌, ◌≤ℤ◌, ◌<ℤ◌, pos, neg_ℤ, ◌==◌}
+use Rattle.std.proofs.Common.{◌≡◌, ◌≢◌, ℕ, suc, ◌*◌, ◌^◌, ◌<◌, ◌≤◌, List, [], ◌∷◌, length, get_or, set, refl, Bool, true, false, cond, eqb, arith, ap, sym, ◌∙◌, inl, inr, subst}
+use Rattle.std.specs.Prelude.{ℤ, ◌+ℤ◌, ◌-ℤ◌, ◌≤ℤ◌, ◌<ℤ◌, pos, ◌==◌}
 use Rattle.std.proofs.lemmas.Int.{ints}
 use Rattle.std.proofs.lemmas.Bool.{cases_eq}
 use Rattle.std.proofs.lemmas.List.{length-set, get_or-set_same, get_or-set_other}
 use Rattle.pf_model.specs.Cut.{at_arc, sum_where}
-use Rattle.pf_model.specs.Flow.{flow_value, sum_out, sum_in}
+use Rattle.pf_model.specs.Flow.{sum_out, sum_in}
 use Rattle.pf_model.specs.Digraph.{Digraph}
 use Rattle.pf_model.proofs.Augment.{sum_where_set}
 use Rattle.pf_frame.specs.Numbers.{IsBounded}

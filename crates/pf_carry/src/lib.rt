@@ -2,62 +2,10 @@
 //! from which an engine of labels goes on. Takes no memory.
 #![tactic(auto)]
 
-ghost use Rattle.std.specs.Prelude.{◌≡◌, ◌≤◌, length};
-ghost use Rattle.pf_model.specs.Digraph.{network_of};
-ghost use Rattle.pf_frame.specs.Numbers.{IsBounded};
-ghost use Rattle.pf_carry.specs.Carry.{IsUnit, IsCarriable, IsCarried, floored};
-
 mod scaling;
 #[cfg(test)]
 mod tests;
 mod trimming;
+mod units;
 
-use crate::scaling::scale;
-use crate::trimming::trim;
-use pf_frame::Frame;
-
-/// Makes a flow in units of `1/from_unit` a preflow from `s` to `t` in units of `1/to_unit`, within the capacities `caps` in the new
-/// unit: each number is floored to it and cut to its capacity. Where a node would give more than it gets, the numbers of the arcs
-/// out of it are lowered, those into the sink first; where none would, the floored and cut numbers stay. Both lists are indexed by
-/// arcs. Takes no memory. An engine of labels goes on from there (Gallo, Grigoriadis and Tarjan 1989).
-pub fn carry(
-    frame: &Frame,
-    s: u32,
-    t: u32,
-    from_unit: i128,
-    to_unit: i128,
-    caps: &[i128],
-    flow: &mut [i128],
-)
-    requires from { IsUnit from_unit }
-    requires to { IsUnit to_unit }
-    requires caps { IsBounded frame.now caps.now }
-    requires flow { IsCarriable frame.now from_unit flow.old }
-    ensures { IsCarried (network_of frame.now caps.now s t) (floored from_unit to_unit caps.now flow.old) flow.new }
-{
-    let _ = frame.nodes();
-    let mut sums = [0i128; 8192];
-    scale_and_trim(frame, s, t, from_unit, to_unit, caps, flow, &mut sums);
-}
-
-// The same, with a place for each node's balance.
-fn scale_and_trim(
-    frame: &Frame,
-    s: u32,
-    t: u32,
-    from_unit: i128,
-    to_unit: i128,
-    caps: &[i128],
-    flow: &mut [i128],
-    sums: &mut [i128],
-)
-    requires from { IsUnit from_unit }
-    requires to { IsUnit to_unit }
-    requires caps { IsBounded frame.now caps.now }
-    requires flow { IsCarriable frame.now from_unit flow.old }
-    requires room { frame.now.nodes ≤ length sums.old }
-    ensures { IsCarried (network_of frame.now caps.now s t) (floored from_unit to_unit caps.now flow.old) flow.new }
-{
-    scale(frame, from_unit, to_unit, caps, flow, sums);
-    trim(frame, s, t, flow, sums);
-}
+pub use units::carry;

@@ -1,9 +1,7 @@
-use Rattle.std.proofs.Common.{arith, ap, sym, ◌∙◌, to_z, of_z, length, get_or, refl}
-use Rattle.std.specs.Prelude.{ℤ, ◌≡◌, ◌+ℤ◌, ◌-ℤ◌, ◌*ℤ◌, ◌≤ℤ◌, ◌<ℤ◌, ◌<◌, ◌≤◌, ◌^◌, pos}
+use Rattle.std.proofs.Common.{arith, sym, ◌∙◌, to_z, of_z, refl}
+use Rattle.std.specs.Prelude.{◌≡◌, ◌≤ℤ◌, ◌<ℤ◌}
 use Rattle.std.proofs.lemmas.Int.{ints, to_z-of_z}
-use Rattle.pf_model.specs.Cut.{at_arc}
 use mir.Syntax.{w128}
-use Rattle.pf_carry.specs.Carry.{carried, least_of}
 use Rattle.pf_carry.proofs.Floors.{carried_full, carried_cut, chosen_first, chosen_second}
 use Rattle.pf_carry.proofs.scaling.fitted.Goals as goal
 

@@ -1,7 +1,6 @@
-use Rattle.std.proofs.Common.{arith, ap, sym, ◌∙◌, to_z, of_z, length, get_or, refl}
-use Rattle.std.specs.Prelude.{ℤ, ◌≡◌, ◌+ℤ◌, ◌-ℤ◌, ◌*ℤ◌, ◌≤ℤ◌, ◌<ℤ◌, ◌<◌, ◌≤◌, ◌^◌, pos}
+use Rattle.std.proofs.Common.{arith, to_z, of_z}
+use Rattle.std.specs.Prelude.{◌≡◌, ◌*ℤ◌}
 use Rattle.std.proofs.lemmas.Int.{ints, to_z-of_z}
-use Rattle.pf_model.specs.Cut.{at_arc}
 use mir.Syntax.{w128}
 use Rattle.pf_carry.proofs.Floors.{part_most}
 use Rattle.pf_carry.proofs.scaling.part.Goals as goal

@@ -1,11 +1,11 @@
-use Rattle.std.proofs.Common.{arith, ap, sym, ◌∙◌, to_z, of_z, length, get_or, refl}
-use Rattle.std.specs.Prelude.{ℤ, ◌≡◌, ◌+ℤ◌, ◌-ℤ◌, ◌*ℤ◌, ◌≤ℤ◌, ◌<ℤ◌, ◌<◌, ◌≤◌, ◌^◌, pos}
+use Rattle.std.proofs.Common.{arith, ap, sym, ◌∙◌, to_z, of_z, length}
+use Rattle.std.specs.Prelude.{◌≡◌, ◌+ℤ◌, ◌-ℤ◌, ◌<◌, pos}
 use Rattle.std.proofs.lemmas.Int.{ints, to_z-of_z}
 use Rattle.pf_model.specs.Cut.{at_arc}
 use mir.Syntax.{w128}
 use Rattle.std.proofs.Common.{set}
 use Rattle.pf_frame.proofs.Balances.{raised_within}
-use Rattle.pf_carry.specs.Carry.{carried, floored}
+use Rattle.pf_carry.specs.Carry.{floored}
 use Rattle.pf_carry.proofs.Floors.{same_carried}
 use Rattle.pf_carry.proofs.Scaled.{floored_at, floored_bounded, scaled_next, scaled_is, scaled_ends}
 use Rattle.pf_carry.proofs.scaling.scale.Goals as goal

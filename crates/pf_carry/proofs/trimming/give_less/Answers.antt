@@ -1,8 +1,7 @@
-use Rattle.std.proofs.Common.{arith, ap, sym, ◌∙◌, to_z, of_z, length, get_or, refl}
-use Rattle.std.specs.Prelude.{ℤ, ◌≡◌, ◌+ℤ◌, ◌-ℤ◌, ◌*ℤ◌, ◌≤ℤ◌, ◌<ℤ◌, ◌<◌, ◌≤◌, ◌^◌, pos}
-use Rattle.std.proofs.lemmas.Int.{ints, to_z-of_z}
+use Rattle.std.proofs.Common.{arith}
+use Rattle.std.specs.Prelude.{◌<ℤ◌, pos}
+use Rattle.std.proofs.lemmas.Int.{ints}
 use Rattle.pf_model.specs.Cut.{at_arc}
-use mir.Syntax.{w128}
 use Rattle.pf_carry.proofs.Lowering.{summed_fits, lowered_short}
 use Rattle.pf_carry.proofs.trimming.give_less.Goals as goal
 

@@ -1,7 +1,6 @@
-use Rattle.std.proofs.Common.{arith, ap, sym, ◌∙◌, to_z, of_z, length, get_or, refl}
-use Rattle.std.specs.Prelude.{ℤ, ◌≡◌, ◌+ℤ◌, ◌-ℤ◌, ◌*ℤ◌, ◌≤ℤ◌, ◌<ℤ◌, ◌<◌, ◌≤◌, ◌^◌, pos}
-use Rattle.std.proofs.lemmas.Int.{ints, to_z-of_z}
-use Rattle.pf_model.specs.Cut.{at_arc}
+use Rattle.std.proofs.Common.{arith, to_z, of_z, refl}
+use Rattle.std.specs.Prelude.{◌-ℤ◌, pos}
+use Rattle.std.proofs.lemmas.Int.{ints}
 use mir.Syntax.{w128}
 use Rattle.pf_carry.proofs.Lowering.{less_most, summed_fits, summed_lower, wide_after}
 use Rattle.pf_carry.proofs.trimming.lower.Goals as goal

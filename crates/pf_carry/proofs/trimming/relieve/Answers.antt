@@ -1,8 +1,4 @@
-use Rattle.std.proofs.Common.{arith, ap, sym, ◌∙◌, to_z, of_z, length, get_or, refl}
-use Rattle.std.specs.Prelude.{ℤ, ◌≡◌, ◌+ℤ◌, ◌-ℤ◌, ◌*ℤ◌, ◌≤ℤ◌, ◌<ℤ◌, ◌<◌, ◌≤◌, ◌^◌, pos}
-use Rattle.std.proofs.lemmas.Int.{ints, to_z-of_z}
-use Rattle.pf_model.specs.Cut.{at_arc}
-use mir.Syntax.{w128}
+use Rattle.std.proofs.Common.{arith}
 use Rattle.pf_frame.proofs.Steps.{out_item}
 use Rattle.pf_carry.proofs.Lowering.{lowered_then}
 use Rattle.pf_carry.proofs.trimming.relieve.Goals as goal

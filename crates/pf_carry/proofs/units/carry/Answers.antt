@@ -1,10 +1,7 @@
-use Rattle.std.proofs.Common.{arith, ap, sym, ◌∙◌, to_z, of_z, length, get_or, refl}
-use Rattle.std.specs.Prelude.{ℤ, ◌≡◌, ◌+ℤ◌, ◌-ℤ◌, ◌*ℤ◌, ◌≤ℤ◌, ◌<ℤ◌, ◌<◌, ◌≤◌, ◌^◌, pos}
-use Rattle.std.proofs.lemmas.Int.{ints, to_z-of_z}
-use Rattle.pf_model.specs.Cut.{at_arc}
+use Rattle.std.proofs.lemmas.Int.{to_z-of_z}
 use mir.Syntax.{w128}
 use Rattle.pf_carry.proofs.Carrying.{carried_all}
-use Rattle.pf_carry.proofs.scale_and_trim.Goals as goal
+use Rattle.pf_carry.proofs.units.carry.Goals as goal
 
 pub returns : goal.returns
 returns c =
