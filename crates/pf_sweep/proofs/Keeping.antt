@@ -1,10 +1,10 @@
 -- The smallest least cut at a parameter, and how long it is kept.
-use Rattle.std.proofs.Common.{◌≡◌, ◌≢◌, ℕ, zero, suc, ◌+◌, ◌<◌, ◌≤◌, List, [], ◌∷◌, length, get_or, take, Bool, true, false, cond, arith, ap, sym, ◌∙◌, refl, add-one}
-use Rattle.std.specs.Prelude.{ℤ, ◌≤ℤ◌}
+use Rattle.std.proofs.Common.{◌≡◌, ◌≢◌, ℕ, zero, suc, ◌+◌, ◌<◌, ◌≤◌, List, [], ◌∷◌, length, get_or, take, Bool, true, false, cond, arith, ap, sym, ◌∙◌, refl, add-one, subst}
+use Rattle.std.specs.Prelude.{ℤ}
 use Rattle.std.proofs.lemmas.Int.{ints}
 use Rattle.pf_model.specs.declared.Sense.TheVariants.{Rising}
 use Rattle.pf_model.specs.Fraction.{Fraction, IsAtMost, IsEqual, IsLowest, IsBoundedFraction, lowest}
-use Rattle.pf_model.specs.Line.{AffineLine, IsBoundedLine, value_at}
+use Rattle.pf_model.specs.Line.{IsBoundedLine, value_at}
 use Rattle.pf_model.specs.Cut.{IsCut, IsLeast, IsSmallestLeast, IsLeastValue, capacity, size}
 use Rattle.pf_model.specs.Flow.{IsGreatest, IsWithin, value}
 use Rattle.pf_model.specs.Digraph.{Digraph, network_of}
@@ -12,7 +12,7 @@ use Rattle.pf_model.specs.Network.{Network, IsInInterval, IsNetworkCut, network_
 use Rattle.pf_model.specs.Answer.{Row, IsRowShape}
 use Rattle.pf_model.proofs.Affine.{capacity_of_line, nested, proper_at}
 use Rattle.pf_model.proofs.Certificate.{least_between}
-use Rattle.pf_model.proofs.Integers.{mul_most, mul_comm}
+use Rattle.pf_model.proofs.Lowest.{lowest_is}
 use Rattle.pf_model.proofs.Duality.{least_from_meeting}
 use Rattle.pf_model.proofs.Exists.{reach_exists}
 use Rattle.pf_model.proofs.Search.{size-le-length}
@@ -22,6 +22,7 @@ use Rattle.pf_frame.specs.Numbers.{IsBounded, IsSized}
 use Rattle.pf_frame.proofs.FlowTest.{sized_of_bounded}
 use Rattle.pf_net.specs.Limits.{IsBuilt, digraph_of}
 use Rattle.pf_rat.proofs.Products.{line_value}
+use Rattle.pf_sweep.specs.declared.sweep.KeptCut.{KeptCut}
 use Rattle.pf_sweep.specs.Parameters.{of_units}
 use Rattle.pf_sweep.specs.Swept.{IsKept}
 use Rattle.pf_sweep.specs.Moving.{caps_of}
@@ -52,24 +53,25 @@ found net unit p frame s caps flow side b e f g best h =
 pub network_cut : (net : Network) (unit p : ℤ) (side : List Bool) → IsSmallestLeast (network_at net (of_units unit p)) side → IsNetworkCut net side
 network_cut net unit p side s = let c = s.least.cut in record { full = c.full; with_source = c.with_source; without_sink = c.without_sink }
 
-pub kept_new : (net : Network) (unit p : ℤ) (side : List Bool) (line : AffineLine) (count : ℕ) → net.sense ≡ Rising → IsInInterval net (of_units unit p) →
-    IsSmallestLeast (network_at net (of_units unit p)) side → line ≡ line_of net side → count ≡ size side → IsKept net (of_units unit p) side line count
-kept_new net unit p side line count rising inside s e f = record {
+pub kept_new : (net : Network) (x : Fraction) (side : List Bool) (cut : KeptCut) → net.sense ≡ Rising → IsInInterval net x → IsSmallestLeast (network_at net x) side → cut.side.items ≡ side →
+    cut.line ≡ line_of net cut.side.items → cut.size ≡ size cut.side.items → IsKept net x cut
+kept_new net x side cut rising inside s same e f = record {
   rising = rising;
-  from = of_units unit p;
+  from = x;
   inside = inside;
   before = omega (arith, ints);
-  smallest = s;
+  smallest = subst (IsSmallestLeast (network_at net x)) (sym same) s;
   line_is = e;
-  count_is = f;
+  size_is = f;
 }
 
 -- a kept cut whose line is the value of a greatest flow is the smallest least cut
-pub kept_least : (net : Network) (unit p : ℤ) (flow : List ℤ) (side : List Bool) (line : AffineLine) (count : ℕ) → IsBuilt net → IsInInterval net (of_units unit p) →
-    IsGreatest (network_at net (of_units unit p)) flow → IsKept net (of_units unit p) side line count → value_at line (of_units unit p) ≡ value (network_at net (of_units unit p)) flow →
-    IsSmallestLeast (network_at net (of_units unit p)) side
-kept_least net unit p flow side line count b inside best k told =
+pub kept_least : (net : Network) (unit p : ℤ) (flow : List ℤ) (kept : KeptCut) → IsBuilt net → IsInInterval net (of_units unit p) →
+    IsGreatest (network_at net (of_units unit p)) flow → IsKept net (of_units unit p) kept → value_at kept.line (of_units unit p) ≡ value (network_at net (of_units unit p)) flow →
+    IsSmallestLeast (network_at net (of_units unit p)) kept.side.items
+kept_least net unit p flow kept b inside best k told =
     let x : Fraction = of_units unit p in
+    let side : List Bool = kept.side.items in
     let c = k.smallest.least.cut in
     let cut : IsCut (network_at net x) side = record { full = c.full; with_source = c.with_source; without_sink = c.without_sink } in
     let e : value (network_at net x) flow ≡ capacity (network_at net x) side =
@@ -80,21 +82,15 @@ kept_least net unit p flow side line count b inside best k told =
     }
 
 -- a kept cut whose line is the least value at a later parameter is the smallest least cut at all up to there
-pub kept_between : (net : Network) (unit p y : ℤ) (side : List Bool) (line : AffineLine) (count : ℕ) (least : ℤ) → IsBuilt net → IsInInterval net (of_units unit p) →
-    IsInInterval net (of_units unit y) → p ≤ℤ y → IsKept net (of_units unit p) side line count → IsLeastValue (network_at net (of_units unit y)) least → value_at line (of_units unit y) ≡ least →
-    IsSmallestLeast (network_at net (of_units unit p)) side
-kept_between net unit p y side line count least b inside far order k v told =
-    let x : Fraction = of_units unit p in
-    let high : Fraction = of_units unit y in
+pub kept_between : (net : Network) (x high : Fraction) (kept : KeptCut) (least : ℤ) → IsBuilt net → IsInInterval net x → IsInInterval net high → IsAtMost x high → IsKept net x kept →
+    IsLeastValue (network_at net high) least → value_at kept.line high ≡ least → IsSmallestLeast (network_at net x) kept.side.items
+kept_between net x high kept least b inside far below k v told =
+    let side : List Bool = kept.side.items in
     let c = k.smallest.least.cut in
     let cut : IsCut (network_at net high) side = record { full = c.full; with_source = c.with_source; without_sink = c.without_sink } in
     let e : least ≡ capacity (network_at net high) side = sym told ∙ ap (λ l. value_at l high) k.line_is ∙ sym (capacity_of_line net high side) in
     let f = v.value_is in
     let there : IsLeast (network_at net high) side = record { cut = cut; least = λ other o. let m = v.least.least other o in omega (arith, ints, e, f, m) } in
-    let g = mul_most unit p y (let u = inside.parameter in omega (arith, ints, u)) order in
-    let h = mul_comm unit p in
-    let i = mul_comm unit y in
-    let below : IsAtMost x high = omega (arith, ints, g, h, i) in
     record {
       least = least_between net k.from x high side k.inside.parameter inside.parameter far.parameter k.before below k.smallest.least there;
       smallest = λ other o. nested net k.from x side other b.monotone k.rising k.inside inside k.before k.smallest o;
@@ -130,14 +126,13 @@ flow_sized net unit p frame flow e b inside bounds best =
 abbrev row_made : Fraction → ℤ → ℕ → Row
 row_made at value count = record { at = at; value = value; size = count }
 
-pub row_shape : (net : Network) (unit p : ℤ) (at : Fraction) (value : ℤ) (side : List Bool) (line : AffineLine) (count : ℕ) → IsBuilt net →
-    IsSmallestLeast (network_at net (of_units unit p)) side → IsBoundedFraction at → IsLowest at → IsBoundedLine line → value ≡ value_at line at → count ≡ size side →
-    IsRowShape (row_made at value count)
-row_shape net unit p at value side line count b s bounds low line_bounds e f =
-    let v = line_value line at line_bounds bounds in
+row_shape : (net : Network) (x at : Fraction) (value : ℤ) (cut : KeptCut) → IsBuilt net → IsSmallestLeast (network_at net x) cut.side.items → IsBoundedFraction at → IsLowest at → IsBoundedLine cut.line →
+    value ≡ value_at cut.line at → cut.size ≡ size cut.side.items → IsRowShape (row_made at value cut.size)
+row_shape net x at value cut b s bounds low line_bounds e f =
+    let v = line_value cut.line at line_bounds bounds in
     let first = v.0 in
     let second = v.1 in
-    let most = size-le-length side in
+    let most = size-le-length cut.side.items in
     let full = s.least.cut.full in
     let few = b.limits.nodes in
     record {
@@ -146,16 +141,18 @@ row_shape net unit p at value side line count b s bounds low line_bounds e f =
       size = omega (arith, f, most, full, few);
     }
 
-pub row_right : (net : Network) (unit p : ℤ) (at : Fraction) (value : ℤ) (side : List Bool) (line : AffineLine) (count : ℕ) → IsBuilt net → IsInInterval net (of_units unit p) →
-    IsSmallestLeast (network_at net (of_units unit p)) side → at ≡ lowest (of_units unit p) → IsEqual at (of_units unit p) → IsBoundedFraction at → IsLowest at → IsBoundedLine line →
-    value ≡ value_at line at → line ≡ line_of net side → count ≡ size side → IsRightRow net (lowest (of_units unit p)) (row_made at value count)
-row_right net unit p at value side line count b inside s is equal bounds low line_bounds e f g =
-    let here = smallest_at_equal net (of_units unit p) at side inside.parameter bounds.parameter (omega (arith, ints, equal)) (omega (arith, ints, equal)) s in
+pub row_right : (net : Network) (x at : Fraction) (value : ℤ) (cut : KeptCut) → IsBuilt net → IsInInterval net x → IsKept net x cut → IsSmallestLeast (network_at net x) cut.side.items → at ≡ lowest x →
+    IsBoundedFraction at → IsBoundedLine cut.line → value ≡ value_at cut.line at → IsRightRow net (lowest x) (row_made at value cut.size)
+row_right net x at value cut b inside k s is bounds line_bounds e =
+    let side : List Bool = cut.side.items in
+    let low = lowest_is x inside.parameter in
+    let equal : IsEqual at x = subst (λ y. IsEqual y x) (sym is) low.equal in
+    let here = smallest_at_equal net x at side inside.parameter bounds.parameter (omega (arith, ints, equal)) (omega (arith, ints, equal)) s in
     record {
-      shape = row_shape net unit p at value side line count b s bounds low line_bounds e g;
+      shape = row_shape net x at value cut b s bounds (subst IsLowest (sym is) low.lowest) line_bounds e k.size_is;
       parameter = is;
-      value = record { side = side; least = here.least; value_is = e ∙ ap (λ l. value_at l at) f ∙ sym (capacity_of_line net at side) };
-      size = record { side = side; least = here; count_is = g };
+      value = record { side = side; least = here.least; value_is = e ∙ ap (λ l. value_at l at) k.line_is ∙ sym (capacity_of_line net at side) };
+      size = record { side = side; least = here; count_is = k.size_is };
     }
 
 -- ---- the number of nodes

@@ -146,29 +146,30 @@ ahead_begins net k sweep m e f g =
     let more = steps_rise net k 0 1 m (omega arith) in
     record { net_is = e; unit_is = f; at_most = omega (arith, ints, g, more) }
 
-pub ahead_later : (net : Network) (k j to : ℕ) (sweep : Swept) (y : ℤ) → IsMonotone net → IsAhead net k j sweep → j ≤ to → y ≡ step_units net k to → sweep.at ≤ℤ y
-ahead_later net k j to sweep y m w order e =
+pub ahead_on : (net : Network) (k j to : ℕ) (sweep : Swept) → IsMonotone net → IsAhead net k j sweep → j ≤ to → IsAhead net k to sweep
+ahead_on net k j to sweep m w order =
     let more = steps_rise net k j to m order in
     let at = w.at_most in
-    omega (arith, ints, more, at, e)
+    record { net_is = w.net_is; unit_is = w.unit_is; at_most = omega (arith, ints, more, at) }
 
-pub ahead_more : (net : Network) (k j to : ℕ) (sweep after : Swept) (y : ℤ) (steps steps' : ℕ) → IsMonotone net → IsAhead net k j sweep → y ≡ step_units net k to → IsAdvanced sweep after y steps steps' →
+pub ahead_later : (net : Network) (k to : ℕ) (sweep : Swept) (y : ℤ) → IsAhead net k to sweep → y ≡ step_units net k to → sweep.at ≤ℤ y
+ahead_later net k to sweep y w e = let at = w.at_most in omega (arith, ints, at, e)
+
+pub ahead_more : (net : Network) (k to : ℕ) (sweep after : Swept) (y : ℤ) (steps steps' : ℕ) → IsMonotone net → IsAhead net k to sweep → y ≡ step_units net k to → IsAdvanced sweep after y steps steps' →
     IsAhead net k (to + 1) after
-ahead_more net k j to sweep after y steps steps' m w e a =
+ahead_more net k to sweep after y steps steps' m w e a =
     let more = step_later net k to m in
     let at = a.at_is in
     record { net_is = a.net_is ∙ w.net_is; unit_is = a.unit_is ∙ w.unit_is; at_most = omega (arith, ints, more, at, e) }
 
--- what the sweep ahead tells of every row up to its own
-pub seen_of : (net : Network) (k j to : ℕ) (s : Swept) (y least : ℤ) → IsMonotone net → 1 ≤ k → s.net ≡ net → s.unit ≡ unit_of net k → s.at ≡ y → y ≡ step_units net k to → j ≤ to → to ≤ k →
-    IsLeastValue (network_of_sweep s) least → IsSeen net k j y least
-seen_of net k j to s y least m some net_is unit_is at_is e order low v =
-    let more = steps_rise net k j to m order in
-    record {
-      inside = rw e (step_inside net k to m (some_product net.low.q net.high.q (pos k) m.low m.high (omega (arith, ints, some))) low);
-      later = omega (arith, ints, more, e);
-      value = rw (net_is, unit_is, at_is) at v;
-    }
+-- what the sweep ahead tells of its row, and so of every row before it
+pub seen_of : (net : Network) (k to : ℕ) (s : Swept) (y least : ℤ) → IsMonotone net → 1 ≤ k → s.net ≡ net → s.unit ≡ unit_of net k → s.at ≡ y → y ≡ step_units net k to → to ≤ k →
+    IsLeastValue (network_of_sweep s) least → IsSeen net k to y least
+seen_of net k to s y least m some net_is unit_is at_is e low v = record {
+  inside = rw e (step_inside net k to m (some_product net.low.q net.high.q (pos k) m.low m.high (omega (arith, ints, some))) low);
+  later = omega (arith, ints, e);
+  value = rw (net_is, unit_is, at_is) at v;
+}
 
 pub seen_earlier : (net : Network) (k i j : ℕ) (y least : ℤ) → IsMonotone net → j ≤ i → IsSeen net k i y least → IsSeen net k j y least
 seen_earlier net k i j y least m order s =

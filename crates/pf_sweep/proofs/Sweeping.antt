@@ -1,11 +1,9 @@
 -- A sweep is made, and goes on to a greater parameter.
-use Rattle.std.proofs.Common.{◌≡◌, ℕ, ◌+◌, ◌≤◌, List, length, get_or, map, Bool, refl, arith, ap, ◌∙◌, subst, take, ◌++◌}
-use Rattle.std.specs.Prelude.{ℤ, ◌*ℤ◌, ◌≤ℤ◌, pos}
+use Rattle.std.proofs.Common.{◌≡◌, ℕ, ◌+◌, ◌≤◌, List, length, get_or, map, refl, arith, ap, sym, ◌∙◌, subst}
+use Rattle.std.specs.Prelude.{ℤ, ◌≤ℤ◌, pos}
 use Rattle.std.proofs.lemmas.Int.{ints}
 use Rattle.std.proofs.lemmas.List.{length-map}
-use Rattle.std.proofs.Math.Seq.{take-append_seam}
-use Rattle.pf_model.specs.Fraction.{IsAtMost, IsBoundedFraction}
-use Rattle.pf_model.specs.Line.{AffineLine}
+use Rattle.pf_model.specs.Fraction.{IsAtMost, IsEqual, IsBoundedFraction}
 use Rattle.pf_model.specs.Cut.{IsLeastValue}
 use Rattle.pf_model.specs.Flow.{IsGreatest, flow_value}
 use Rattle.pf_model.specs.Residual.{HasValidLabels}
@@ -19,7 +17,9 @@ use Rattle.pf_frame.specs.Numbers.{IsSized}
 use Rattle.pf_net.specs.Limits.{IsBuilt, digraph_of}
 use Rattle.pf_preflow.specs.Engine.{Engined, AreLow, IsFor}
 use Rattle.pf_preflow.specs.Labels.{changed, rises}
-use Rattle.pf_sweep.specs.Parameters.{of_units, most_unit, HasNearEnds}
+use Rattle.pf_sweep.specs.declared.parameter.Parameter.{Parameter}
+use Rattle.pf_sweep.specs.declared.sweep.KeptCut.{KeptCut}
+use Rattle.pf_sweep.specs.Parameters.{of_units, fraction_of, most_unit, HasNearEnds}
 use Rattle.pf_sweep.specs.Swept.{Swept, IsMade, IsAdvanced, IsEngineOf, IsKept, IsSweep, parameter_of, network_of_sweep}
 use Rattle.pf_sweep.specs.Moving.{caps_of, IsBefore}
 use Rattle.pf_sweep.proofs.Units.{bounds_inside}
@@ -34,11 +34,11 @@ pub engine_of : (net : Network) (frame : Digraph) (engine : Engined) (s t : ℕ)
     IsEngineOf net engine
 engine_of net frame engine s t e f g fits source sink = record { fits = subst (IsFor engine) e fits; source = source ∙ f; sink = sink ∙ g }
 
-pub sweep_of : (net : Network) (unit at : ℤ) (engine : Engined) (scratch : Scratch) (caps flow : List ℤ) (side : List Bool) (line : AffineLine) (count : ℕ) → IsBuilt net → pos 1 ≤ℤ unit → unit ≤ℤ pos most_unit →
+pub sweep_of : (net : Network) (unit at : ℤ) (engine : Engined) (scratch : Scratch) (caps flow : List ℤ) (cut : KeptCut) → IsBuilt net → pos 1 ≤ℤ unit → unit ≤ℤ pos most_unit →
     HasNearEnds net → IsInInterval net (of_units unit at) → IsEngineOf net engine → caps ≡ caps_of net unit at → IsGreatest (network_at net (of_units unit at)) flow →
-    HasValidLabels (network_at net (of_units unit at)) flow engine.labels → AreLow net.nodes engine.labels → Serves scratch net.nodes (length net.arcs) → IsKept net (of_units unit at) side line count →
-    IsSweep (swept_of net unit at flow engine.labels) engine scratch caps side line count
-sweep_of net unit at engine scratch caps flow side line count b low high ends inside e caps_are best valid small serves kept = record {
+    HasValidLabels (network_at net (of_units unit at)) flow engine.labels → AreLow net.nodes engine.labels → Serves scratch net.nodes (length net.arcs) → IsKept net (of_units unit at) cut →
+    IsSweep (swept_of net unit at flow engine.labels) engine scratch caps cut
+sweep_of net unit at engine scratch caps flow cut b low high ends inside e caps_are best valid small serves kept = record {
   built = b;
   unit_low = low;
   unit_high = high;
@@ -51,11 +51,11 @@ sweep_of net unit at engine scratch caps flow side line count b low high ends in
   kept = kept;
 }
 
-pub made_of : (net : Network) (unit at : ℤ) (flow : List ℤ) (labels : List ℕ) → at *ℤ net.low.q ≡ net.low.p *ℤ unit → IsInInterval net (of_units unit at) → IsGreatest (network_at net (of_units unit at)) flow →
-    HasValidLabels (network_at net (of_units unit at)) flow labels → AreLow net.nodes labels → IsMade net unit (swept_of net unit at flow labels)
-made_of net unit at flow labels e inside best valid small = record {
+pub made_of : (net : Network) (unit : ℤ) (at : Parameter) (flow : List ℤ) (labels : List ℕ) → at.unit ≡ unit → IsEqual (fraction_of at) net.low → IsInInterval net (fraction_of at) →
+    IsGreatest (network_at net (fraction_of at)) flow → HasValidLabels (network_at net (fraction_of at)) flow labels → AreLow net.nodes labels → IsMade net unit (swept_of net at.unit at.p flow labels)
+made_of net unit at flow labels same e inside best valid small = record {
   net_is = refl;
-  unit_is = refl;
+  unit_is = same;
   low_end = e;
   settled = record { inside = inside; greatest = best; valid = valid; low = small };
 }
@@ -72,79 +72,95 @@ serves_still before after n m k s =
 
 -- ---- it goes on
 
-pub bounds_of : (s : Swept) (engine : Engined) (scratch : Scratch) (caps : List ℤ) (side : List Bool) (line : AffineLine) (count : ℕ) (p : ℤ) → IsSweep s engine scratch caps side line count →
+pub bounds_of : (s : Swept) (engine : Engined) (scratch : Scratch) (caps : List ℤ) (cut : KeptCut) (p : ℤ) → IsSweep s engine scratch caps cut →
     IsInInterval s.net (of_units s.unit p) → IsBoundedFraction (of_units s.unit p)
-bounds_of s engine scratch caps side line count p w inside = bounds_inside s.net s.unit p w.built w.ends w.unit_low w.unit_high inside
+bounds_of s engine scratch caps cut p w inside = bounds_inside s.net s.unit p w.built w.ends w.unit_low w.unit_high inside
 
-pub before_of : (s : Swept) (engine : Engined) (scratch : Scratch) (caps : List ℤ) (side : List Bool) (line : AffineLine) (count : ℕ) (p : ℤ) → IsSweep s engine scratch caps side line count →
+-- a step to p/unit can be made
+pub record IsDue (s : Swept) (p : ℤ) : Type 0 where
+  pub inside : IsInInterval s.net (of_units s.unit p)
+  pub later : s.at ≤ℤ p
+  pub bounds : IsBoundedFraction (of_units s.unit p)
+
+pub due_of : (s seen : Swept) (engine : Engined) (scratch : Scratch) (caps : List ℤ) (cut : KeptCut) (p : ℤ) → IsSweep s engine scratch caps cut → s ≡ seen →
+    IsInInterval seen.net (of_units seen.unit p) → seen.at ≤ℤ p → IsDue s p
+due_of s seen engine scratch caps cut p w same inside later =
+    let P : Swept → Type 0 = λ z. IsInInterval z.net (of_units z.unit p) in
+    let Q : Swept → Type 0 = λ z. z.at ≤ℤ p in
+    let here : IsInInterval s.net (of_units s.unit p) = subst P (sym same) inside in
+    record { inside = here; later = subst Q (sym same) later; bounds = bounds_of s engine scratch caps cut p w here }
+
+pub before_of : (s : Swept) (engine : Engined) (scratch : Scratch) (caps : List ℤ) (cut : KeptCut) (p : ℤ) → IsSweep s engine scratch caps cut →
     s.at ≤ℤ p → IsBefore s.net s.unit p caps s.flow engine.labels
-before_of s engine scratch caps side line count p w later =
+before_of s engine scratch caps cut p w later =
     let P : List ℕ → Type 0 = λ labels. HasValidLabels (network_of_sweep s) s.flow labels in
     record {
       rising = w.kept.rising;
       from = s.at;
       inside = w.settled.inside;
-      bounds = bounds_of s engine scratch caps side line count s.at w w.settled.inside;
+      bounds = bounds_of s engine scratch caps cut s.at w w.settled.inside;
       later = later;
       caps_are = w.caps_are;
       flow_is = w.settled.greatest.flow_is;
       valid = subst P w.labels_are w.settled.valid;
     }
 
-later_units : (unit at p : ℤ) → pos 1 ≤ℤ unit → at ≤ℤ p → IsAtMost (of_units unit at) (of_units unit p)
+pub later_units : (unit at p : ℤ) → pos 1 ≤ℤ unit → at ≤ℤ p → IsAtMost (of_units unit at) (of_units unit p)
 later_units unit at p h l =
     let e = mul_most unit at p (omega (arith, ints, h)) l in
     let f = mul_comm unit at in
     let g = mul_comm unit p in
     omega (arith, ints, e, f, g)
 
-pub kept_later : (net : Network) (unit at p : ℤ) (side : List Bool) (line : AffineLine) (count : ℕ) → pos 1 ≤ℤ unit → at ≤ℤ p → IsKept net (of_units unit at) side line count →
-    IsKept net (of_units unit p) side line count
-kept_later net unit at p side line count h l k = record {
+pub kept_later : (net : Network) (unit at p : ℤ) (cut : KeptCut) → pos 1 ≤ℤ unit → at ≤ℤ p → IsKept net (of_units unit at) cut →
+    IsKept net (of_units unit p) cut
+kept_later net unit at p cut h l k = record {
   rising = k.rising;
   from = k.from;
   inside = k.inside;
   before = at_most_trans k.from (of_units unit at) (of_units unit p) k.inside.parameter h h k.before (later_units unit at p h l);
   smallest = k.smallest;
   line_is = k.line_is;
-  count_is = k.count_is;
+  size_is = k.size_is;
 }
 
-pub goes_on : (s : Swept) (p : ℤ) (engine engine' : Engined) (scratch : Scratch) (caps caps' flow' : List ℤ) (side : List Bool) (line : AffineLine) (count : ℕ) → IsSweep s engine scratch caps side line count →
+pub goes_on : (s : Swept) (p : ℤ) (engine engine' : Engined) (scratch : Scratch) (caps caps' flow' : List ℤ) (cut : KeptCut) → IsSweep s engine scratch caps cut →
     s.at ≤ℤ p → IsInInterval s.net (of_units s.unit p) → IsEngineOf s.net engine' → caps' ≡ caps_of s.net s.unit p → IsGreatest (network_at s.net (of_units s.unit p)) flow' →
     HasValidLabels (network_at s.net (of_units s.unit p)) flow' engine'.labels → AreLow s.net.nodes engine'.labels →
-    IsSweep (swept_of s.net s.unit p flow' engine'.labels) engine' scratch caps' side line count
-goes_on s p engine engine' scratch caps caps' flow' side line count w later inside e caps_are best valid small =
-    sweep_of s.net s.unit p engine' scratch caps' flow' side line count w.built w.unit_low w.unit_high w.ends inside e caps_are best valid small w.scratch_serves
-    (kept_later s.net s.unit s.at p side line count w.unit_low later w.kept)
+    IsSweep (swept_of s.net s.unit p flow' engine'.labels) engine' scratch caps' cut
+goes_on s p engine engine' scratch caps caps' flow' cut w later inside e caps_are best valid small =
+    sweep_of s.net s.unit p engine' scratch caps' flow' cut w.built w.unit_low w.unit_high w.ends inside e caps_are best valid small w.scratch_serves
+    (kept_later s.net s.unit s.at p cut w.unit_low later w.kept)
 
-pub advanced_of : (s : Swept) (p : ℤ) (engine engine' : Engined) (flow' : List ℤ) (steps steps' : ℕ) → s.labels ≡ engine.labels → IsInInterval s.net (of_units s.unit p) →
+pub advanced_of : (s seen : Swept) (p : ℤ) (engine engine' : Engined) (flow' : List ℤ) (steps steps' : ℕ) → s ≡ seen → s.labels ≡ engine.labels → IsInInterval s.net (of_units s.unit p) →
     IsGreatest (network_at s.net (of_units s.unit p)) flow' → HasValidLabels (network_at s.net (of_units s.unit p)) flow' engine'.labels → AreLow s.net.nodes engine'.labels →
     ((v : ℕ) → get_or engine.labels v 0 ≤ get_or engine'.labels v 0) → changed engine.labels engine'.labels + steps ≤ steps' → steps' ≤ steps + rises engine.labels engine'.labels →
-    IsAdvanced s (swept_of s.net s.unit p flow' engine'.labels) p steps steps'
-advanced_of s p engine engine' flow' steps steps' e inside best valid small none_fell least most = record {
-  net_is = refl;
-  unit_is = refl;
-  at_is = refl;
-  raised = record { none_fell = rw e none_fell; at_least = rw e least; at_most = rw e most };
-  settled = record { inside = inside; greatest = best; valid = valid; low = small };
-}
+    IsAdvanced seen (swept_of s.net s.unit p flow' engine'.labels) p steps steps'
+advanced_of s seen p engine engine' flow' steps steps' same e inside best valid small none_fell least most =
+    let P : Swept → Type 0 = λ z. IsAdvanced z (swept_of s.net s.unit p flow' engine'.labels) p steps steps' in
+    subst P same (record {
+      net_is = refl;
+      unit_is = refl;
+      at_is = refl;
+      raised = record { none_fell = rw e none_fell; at_least = rw e least; at_most = rw e most };
+      settled = record { inside = inside; greatest = best; valid = valid; low = small };
+    })
 
 -- ---- what it tells
 
-pub value_of : (s : Swept) (engine : Engined) (scratch : Scratch) (caps : List ℤ) (side : List Bool) (line : AffineLine) (count : ℕ) (sum : ℤ) → IsSweep s engine scratch caps side line count →
+pub value_of : (s : Swept) (engine : Engined) (scratch : Scratch) (caps : List ℤ) (cut : KeptCut) (sum : ℤ) → IsSweep s engine scratch caps cut →
     sum ≡ flow_value (network_of_sweep s).ends s.flow s.net.source → IsLeastValue (network_of_sweep s) sum
-value_of s engine scratch caps side line count sum w e = least_value s.net s.unit s.at s.flow sum w.built w.settled.inside w.settled.greatest e
+value_of s engine scratch caps cut sum w e = least_value s.net s.unit s.at s.flow sum w.built w.settled.inside w.settled.greatest e
 
-pub sized_of : (s : Swept) (engine : Engined) (scratch : Scratch) (caps : List ℤ) (side : List Bool) (line : AffineLine) (count : ℕ) (frame : Digraph) → IsSweep s engine scratch caps side line count →
+pub sized_of : (s : Swept) (engine : Engined) (scratch : Scratch) (caps : List ℤ) (cut : KeptCut) (frame : Digraph) → IsSweep s engine scratch caps cut →
     frame ≡ digraph_of s.net → IsSized frame s.flow
-sized_of s engine scratch caps side line count frame w e =
-    flow_sized s.net s.unit s.at frame s.flow e w.built w.settled.inside (bounds_of s engine scratch caps side line count s.at w w.settled.inside) w.settled.greatest
+sized_of s engine scratch caps cut frame w e =
+    flow_sized s.net s.unit s.at frame s.flow e w.built w.settled.inside (bounds_of s engine scratch caps cut s.at w w.settled.inside) w.settled.greatest
 
 -- another cut is kept, and the scratch has as many places
-pub kept_anew : (s : Swept) (engine : Engined) (scratch scratch' : Scratch) (caps : List ℤ) (side side' : List Bool) (line line' : AffineLine) (count count' : ℕ) → IsSweep s engine scratch caps side line count →
-    KeepsPlaces scratch scratch' → IsKept s.net (parameter_of s) side' line' count' → IsSweep s engine scratch' caps side' line' count'
-kept_anew s engine scratch scratch' caps side side' line line' count count' w k kept = record {
+pub kept_anew : (s : Swept) (engine : Engined) (scratch scratch' : Scratch) (caps : List ℤ) (cut cut' : KeptCut) → IsSweep s engine scratch caps cut →
+    KeepsPlaces scratch scratch' → IsKept s.net (parameter_of s) cut' → IsSweep s engine scratch' caps cut'
+kept_anew s engine scratch scratch' caps cut cut' w k kept = record {
   built = w.built;
   unit_low = w.unit_low;
   unit_high = w.unit_high;
@@ -161,10 +177,6 @@ pub value_seen : (net : Network) (frame : Digraph) (s : ℕ) (flow flow' : List 
     sum ≡ flow_value (map ends_of net.arcs) flow net.source
 value_seen net frame s flow flow' sum e f g h =
     e ∙ ap (λ (z : Digraph). flow_value z.ends flow' s) f ∙ ap (λ (l : List ℤ). flow_value (map ends_of net.arcs) l s) g ∙ ap (λ v. flow_value (map ends_of net.arcs) flow v) h
-
--- a list that was lent and has its length
-pub lent_back : {A : Type 0} (len : ℕ) (new rest : List A) → len ≡ length new → take len (new ++ rest) ≡ new
-lent_back len new rest e = ap (λ n. take n (new ++ rest)) e ∙ take-append_seam new rest
 
 pub serves_of : (net : Network) (frame : Digraph) (room : Scratch) (n m : ℕ) → frame ≡ digraph_of net → n ≡ frame.nodes → m ≡ length frame.ends → Serves room n m → Serves room net.nodes (length net.arcs)
 serves_of net frame room n m e f g s =

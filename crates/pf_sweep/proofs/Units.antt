@@ -2,7 +2,7 @@
 use Rattle.std.proofs.Common.{◌≡◌, ℕ, ◌≤◌, ◌^◌, arith, ap, sym, ◌∙◌, subst}
 use Rattle.std.specs.Prelude.{ℤ, ◌+ℤ◌, ◌-ℤ◌, ◌*ℤ◌, ◌≤ℤ◌, neg_ℤ, pos, nat_abs}
 use Rattle.std.proofs.lemmas.Int.{ints, by_lt_z}
-use Rattle.pf_model.specs.Fraction.{Fraction, IsBoundedFraction}
+use Rattle.pf_model.specs.Fraction.{Fraction, IsBoundedFraction, IsParameter, IsEqual}
 use Rattle.pf_model.specs.Network.{Network, IsMonotone, IsInInterval}
 use Rattle.pf_model.proofs.Integers.{mul_add, mul_assoc, mul_comm, mul_most, nonneg_inverse}
 use Rattle.pf_model.proofs.Certificate.{at_most_trans}
@@ -95,13 +95,13 @@ bounds_inside net unit p b ends h k inside =
     near_bounds unit p h k (omega (arith, ints, low)) (omega (arith, ints, high))
 
 -- the low end lies in the interval
-pub start_inside : (net : Network) (unit r : ℤ) → IsMonotone net → pos 1 ≤ℤ unit → r *ℤ net.low.q ≡ net.low.p *ℤ unit → IsInInterval net (of_units unit r)
-start_inside net unit r m h e =
+pub start_inside : (net : Network) (x : Fraction) → IsMonotone net → IsParameter x → IsEqual x net.low → IsInInterval net x
+start_inside net x m h e =
     let below = m.interval in
     record {
       parameter = h;
       low = omega (arith, ints, e);
-      high = at_most_trans (of_units unit r) net.low net.high h m.low m.high (omega (arith, ints, e)) (omega (arith, ints, below));
+      high = at_most_trans x net.low net.high h m.low m.high (omega (arith, ints, e)) (omega (arith, ints, below));
     }
 
 -- ---- equal steps

@@ -2,10 +2,14 @@
 use Rattle.std.specs.Prelude.{◌≡◌, ℕ, ◌^◌, Bool, ℤ, pos, neg_ℤ, ◌+ℤ◌, ◌-ℤ◌, ◌*ℤ◌, ◌≤ℤ◌, int_lt}
 use Rattle.pf_model.specs.Fraction.{Fraction, lowest}
 use Rattle.pf_model.specs.Network.{Network}
+use Rattle.pf_sweep.specs.declared.parameter.Parameter.{Parameter}
 
 -- p units of 1/unit
 abbrev pub of_units : ℤ → ℤ → Fraction
 of_units unit p = record { p = p; q = unit }
+
+abbrev pub fraction_of : Parameter → Fraction
+fraction_of x = of_units x.unit x.p
 
 -- the greatest denominator of a sweep
 abbrev pub most_unit : ℕ

@@ -1,7 +1,6 @@
 -- What contracts see of a sweep, and what it keeps.
-use Rattle.std.specs.Prelude.{◌≡◌, ℕ, ◌+◌, ◌≤◌, ℤ, pos, ◌≤ℤ◌, Bool, List, length, get_or, map}
+use Rattle.std.specs.Prelude.{◌≡◌, ℕ, ◌+◌, ◌≤◌, ℤ, pos, ◌≤ℤ◌, List, length, get_or, map}
 use Rattle.pf_model.specs.Fraction.{Fraction, IsAtMost, IsEqual}
-use Rattle.pf_model.specs.Line.{AffineLine}
 use Rattle.pf_model.specs.Cut.{FlowNetwork, IsSmallestLeast, size}
 use Rattle.pf_model.specs.Flow.{IsGreatest}
 use Rattle.pf_model.specs.Residual.{HasValidLabels}
@@ -12,6 +11,7 @@ use Rattle.pf_frame.specs.Scratch.{Serves}
 use Rattle.pf_net.specs.Limits.{IsBuilt, digraph_of}
 use Rattle.pf_preflow.specs.Engine.{Engined, IsFor, AreLow}
 use Rattle.pf_preflow.specs.Labels.{changed, rises}
+use Rattle.pf_sweep.specs.declared.sweep.KeptCut.{KeptCut}
 use Rattle.pf_sweep.specs.Parameters.{of_units, most_unit, HasNearEnds}
 
 -- a network, the parameter at/unit, a number beside each arc, and a label beside each node
@@ -67,17 +67,17 @@ pub record IsEngineOf (net : Network) (engine : Engined) : Type 0 where
 
 -- in a rising network, a cut that was the smallest least one at a parameter that is not above x, with its line and the number of its
 -- nodes
-pub record IsKept (net : Network) (x : Fraction) (side : List Bool) (line : AffineLine) (count : ℕ) : Type 0 where
+pub record IsKept (net : Network) (x : Fraction) (cut : KeptCut) : Type 0 where
   pub rising : net.sense ≡ Rising
   pub from : Fraction
   pub inside : IsInInterval net from
   pub before : IsAtMost from x
-  pub smallest : IsSmallestLeast (network_at net from) side
-  pub line_is : line ≡ line_of net side
-  pub count_is : count ≡ size side
+  pub smallest : IsSmallestLeast (network_at net from) cut.side.items
+  pub line_is : cut.line ≡ line_of net cut.side.items
+  pub size_is : cut.size ≡ size cut.side.items
 
--- what a sweep keeps beside its flow and its labels: the engine, a scratch, the capacities at its parameter
-pub record IsSweep (s : Swept) (engine : Engined) (scratch : Scratch) (caps : List ℤ) (side : List Bool) (line : AffineLine) (count : ℕ) : Type 0 where
+-- what a sweep keeps beside its flow and its labels: the engine, a scratch, the capacities at its parameter, a cut
+pub record IsSweep (s : Swept) (engine : Engined) (scratch : Scratch) (caps : List ℤ) (cut : KeptCut) : Type 0 where
   pub built : IsBuilt s.net
   pub unit_low : pos 1 ≤ℤ s.unit
   pub unit_high : s.unit ≤ℤ pos most_unit
@@ -87,4 +87,4 @@ pub record IsSweep (s : Swept) (engine : Engined) (scratch : Scratch) (caps : Li
   pub engine_is : IsEngineOf s.net engine
   pub scratch_serves : Serves scratch s.net.nodes (length s.net.arcs)
   pub caps_are : caps ≡ map (capacity_at (parameter_of s)) s.net.arcs
-  pub kept : IsKept s.net (parameter_of s) side line count
+  pub kept : IsKept s.net (parameter_of s) cut

@@ -4,6 +4,7 @@
 
 mod laws;
 mod moving;
+mod parameter;
 mod rows;
 mod sweep;
 #[cfg(test)]

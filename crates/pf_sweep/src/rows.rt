@@ -105,13 +105,46 @@ fn add_row(
     Ok(())
 }
 
-// The next row: that of the kept cut, if it has the least value at the parameter `y` ahead too; else the one after a step.
+// The end of a block of rows: the number of its last row, that row's parameter in units of the sweep, and the least value there.
+#[derive(Clone, Copy)]
+struct BlockEnd {
+    row: u32,
+    p: i128,
+    least: i128,
+}
+
+// Goes ahead to the row `to`, the last of a block.
+fn look_ahead<L: Ledger>(
+    net: &Net,
+    k: u32,
+    to: u32,
+    ahead: &mut Sweep<'_>,
+    steps: &mut Steps<L>,
+) -> BlockEnd
+    requires some { 1 ≤ k }
+    requires most { k ≤ 100000 }
+    requires last { to ≤ k }
+    requires ends { HasNearEnds net.now }
+    requires fine { unit_of net.now k ≤ℤ pos most_unit }
+    requires ahead { IsAhead net.now k to ahead.old }
+    ensures row { result.row ≡ to }
+    ensures seen { IsSeen net.now k result.row result.p result.least }
+    ensures ahead { IsAhead net.now k (result.row + 1) ahead.new }
+{
+    // Gives the proof what every network keeps.
+    let _ = net.frame().nodes();
+    let p = numerator(net, k, to);
+    ahead.advance(p, steps);
+    let least = ahead.value();
+    BlockEnd { row: to, p, least }
+}
+
+// The next row: that of the kept cut, if it has the least value at the block's end too; else the one after a step.
 fn add_next<L: Ledger>(
     net: &Net,
     k: u32,
     j: u32,
-    y: &i128,
-    least: &i128,
+    end: &BlockEnd,
     sweep: &mut Sweep<'_>,
     rows: &mut Rows,
     steps: &mut Steps<L>,
@@ -122,15 +155,13 @@ fn add_next<L: Ledger>(
     requires ends { HasNearEnds net.now }
     requires fine { unit_of net.now k ≤ℤ pos most_unit }
     requires sweep { IsUnderway net.now k j sweep.old rows.old }
-    requires seen { IsSeen net.now k j y.now least.now }
+    requires seen { IsSeen net.now k j end.now.p end.now.least }
     ensures { IfOk result (λ _. IsUnderway net.now k (j + 1) sweep.new rows.new) }
 {
     // Gives the proof what every network keeps.
     let _ = net.frame().nodes();
-    let y = *y;
-    let least = *least;
     let p = numerator(net, k, j);
-    match sweep.row_before(y, least, p) {
+    match sweep.row_before(end.p, end.least, p) {
         Some(row) => {
             rows.push(row)?;
             Ok(())
@@ -143,35 +174,30 @@ fn add_next<L: Ledger>(
     }
 }
 
-// The rows from row `from` to row `to`, at whose parameter the sweep ahead finds the least value.
+// The rows of a block, from row `from` on.
 fn add_block<L: Ledger>(
     net: &Net,
     k: u32,
     from: u32,
-    to: u32,
+    end: &BlockEnd,
     sweep: &mut Sweep<'_>,
-    ahead: &mut Sweep<'_>,
     rows: &mut Rows,
     steps: &mut Steps<L>,
 ) -> Result<(), NoMemory>
     requires some { 1 ≤ k }
     requires most { k ≤ 100000 }
-    requires order { from ≤ to }
-    requires last { to ≤ k }
+    requires order { from ≤ end.now.row }
+    requires last { end.now.row ≤ k }
     requires ends { HasNearEnds net.now }
     requires fine { unit_of net.now k ≤ℤ pos most_unit }
     requires sweep { IsUnderway net.now k from sweep.old rows.old }
-    requires ahead { IsAhead net.now k from ahead.old }
-    ensures sweep { IfOk result (λ _. IsUnderway net.now k (to + 1) sweep.new rows.new) }
-    ensures ahead { IfOk result (λ _. IsAhead net.now k (to + 1) ahead.new) }
+    requires seen { IsSeen net.now k end.now.row end.now.p end.now.least }
+    ensures { IfOk result (λ _. IsUnderway net.now k (end.now.row + 1) sweep.new rows.new) }
 {
     // Gives the proof what every network keeps.
     let _ = net.frame().nodes();
-    let y = numerator(net, k, to);
-    ahead.advance(y, steps);
-    let least = ahead.value();
-    'each: for j in from..to + 1 {
-        add_next(net, k, j, &y, &least, sweep, rows, steps)?;
+    'each: for j in from..end.row + 1 {
+        add_next(net, k, j, end, sweep, rows, steps)?;
     }
     Ok(())
 }
@@ -229,8 +255,9 @@ fn add_rows<L: Ledger>(
     let mut from = 1u32;
     'blocks: while from <= k {
         let to = last_of(from, length, k);
-        add_block(net, k, from, to, sweep, ahead, rows, &mut steps)?;
-        from = to + 1;
+        let end = look_ahead(net, k, to, ahead, &mut steps);
+        add_block(net, k, from, &end, sweep, rows, &mut steps)?;
+        from = end.row + 1;
     }
     Ok(())
 }

@@ -1,8 +1,8 @@
 // A sweep through rising parameters, and its rows.
 ghost use Rattle.std.specs.Prelude.{◌≡◌, ◌↔◌, IfSome, ◌+◌, ◌<◌, ◌≤◌, ◌^◌, length, map, true, cond, ℤ, pos, ◌≤ℤ◌, ◌<ℤ◌, ◌*ℤ◌, IfOk, Err};
 ghost use Rattle.pf_model.specs.declared.Sense.TheVariants.{Rising};
-ghost use Rattle.pf_model.specs.Fraction.{IsBoundedFraction, lowest};
-ghost use Rattle.pf_model.specs.Line.{value_at};
+ghost use Rattle.pf_model.specs.Fraction.{IsAtMost, IsEqual, IsBoundedFraction, lowest};
+ghost use Rattle.pf_model.specs.Line.{IsBoundedLine, value_at};
 ghost use Rattle.pf_model.specs.Cut.{IsSmallestLeast, IsLeastValue, size};
 ghost use Rattle.pf_model.specs.Flow.{IsGreatest, flow_value};
 ghost use Rattle.pf_model.specs.Residual.{HasValidLabels};
@@ -11,12 +11,13 @@ ghost use Rattle.pf_frame.specs.Scratch.{Serves, KeepsPlaces};
 ghost use Rattle.pf_net.specs.Limits.{IsBuilt};
 ghost use Rattle.pf_preflow.specs.Engine.{AreLow};
 ghost use Rattle.pf_carry.specs.Scaling.{IsFloor};
-ghost use Rattle.pf_sweep.specs.Parameters.{of_units, most_unit, HasNearEnds, IsNearEnd, IsMultiple};
+ghost use Rattle.pf_sweep.specs.Parameters.{of_units, fraction_of, most_unit, HasNearEnds, IsNearEnd, IsMultiple};
 ghost use Rattle.pf_sweep.specs.Swept.{IsEngineOf, IsKept, IsMade, IsAdvanced, IsSettled, network_of_sweep, parameter_of};
 ghost use Rattle.pf_sweep.specs.Moving.{caps_of};
 ghost use Rattle.pf_sweep.specs.Rows.{IsRightRow, turned_row};
 
 use crate::moving::{move_first, move_on};
+use crate::parameter::Parameter;
 use pf_frame::{NoMemory, Scratch, reach, value};
 use pf_net::Net;
 use pf_preflow::Engine;
@@ -102,21 +103,25 @@ impl SweepRow {
     }
 }
 
+/// The smallest least cut when it was last sought, with its line and the number of its nodes. `side` is indexed by nodes.
+#[derive(Drop)]
+pub struct KeptCut {
+    side: Vec<bool>,
+    line: Line,
+    size: u32,
+}
+
 /// A greatest flow at a parameter that only rises, and the labels with which it was found. Parameters are `p/unit` with one unit
 /// for the whole sweep; flows are in units of `1/unit`. Contracts see the network, the unit, `p`, the flow and the labels.
 #[derive(Drop)]
 pub struct Sweep<'a> {
     net: &'a Net,
-    unit: i128,
-    at: i128,
+    at: Parameter,
     engine: Engine,
     scratch: Scratch,
     caps: Vec<i128>,
     flow: Vec<i128>,
-    // The smallest least cut when it was last sought, with its line and the number of its nodes.
-    side: Vec<bool>,
-    line: Line,
-    count: u32,
+    cut: KeptCut,
 }
 
 impl<'a> Model for Sweep<'a> {
@@ -124,10 +129,10 @@ impl<'a> Model for Sweep<'a> {
 
     ghost Value = { Swept };
 
-    ghost view = { λ s. record { net = s.net.now; unit = s.unit; at = s.at; flow = s.flow.items; labels = s.engine.labels } };
+    ghost view = { λ s. record { net = s.net.now; unit = s.at.unit; at = s.at.p; flow = s.flow.items; labels = s.engine.labels } };
 
-    ghost invariant = { λ s. IsSweep (record { net = s.net.now; unit = s.unit; at = s.at; flow = s.flow.items; labels = s.engine.labels })
-        s.engine s.scratch s.caps.items s.side.items s.line s.count };
+    ghost invariant = { λ s. IsSweep (record { net = s.net.now; unit = s.at.unit; at = s.at.p; flow = s.flow.items; labels = s.engine.labels })
+        s.engine s.scratch s.caps.items s.cut };
 }
 
 // The quotient, rounded down.
@@ -143,17 +148,19 @@ fn quotient(x: i128, d: i128) -> i128
 }
 
 // The low end of the interval, in units of `1/unit`.
-fn start_of(lo: &Rat, unit: i128) -> i128
+fn start_of(lo: &Rat, unit: i128) -> Parameter
     requires low { pos 1 ≤ℤ unit }
     requires high { unit ≤ℤ pos most_unit }
     requires near { IsNearEnd lo.now }
     requires whole { IsMultiple unit lo.now.q }
-    ensures equal { result *ℤ lo.now.q ≡ lo.now.p *ℤ unit }
-    ensures bounds { IsBoundedFraction (of_units unit result) }
+    ensures unit { result.unit ≡ unit }
+    ensures equal { IsEqual (fraction_of result) lo.now }
+    ensures bounds { IsBoundedFraction (fraction_of result) }
 {
     let q = lo.q();
     prove!(q >= 1);
-    lo.p() * quotient(unit, q)
+    let p = lo.p() * quotient(unit, q);
+    Parameter { p, unit }
 }
 
 // One more, where the node is in the side.
@@ -176,50 +183,74 @@ fn count_nodes(side: &[bool]) -> u32
     count
 }
 
-// Seeks the smallest least cut: its line, and the number of its nodes.
-fn seek(
+// Writes the smallest least cut at the parameter: what the residual graph of the greatest flow reaches.
+fn write_side(
     net: &Net,
-    unit: i128,
-    p: i128,
+    at: &Parameter,
     caps: &[i128],
     flow: &[i128],
     scratch: &mut Scratch,
     side: &mut [bool],
-) -> (Line, u32)
-    requires rising { net.now.sense ≡ Rising }
-    requires inside { IsInInterval net.now (of_units unit p) }
-    requires bounds { IsBoundedFraction (of_units unit p) }
-    requires caps { caps.now ≡ caps_of net.now unit p }
-    requires greatest { IsGreatest (network_at net.now (of_units unit p)) flow.now }
+)
+    requires inside { IsInInterval net.now (fraction_of at.now) }
+    requires bounds { IsBoundedFraction (fraction_of at.now) }
+    requires caps { caps.now ≡ caps_of net.now at.now.unit at.now.p }
+    requires greatest { IsGreatest (network_at net.now (fraction_of at.now)) flow.now }
     requires room { Serves scratch.old net.now.nodes (length net.now.arcs) }
     requires places { length side.old ≡ net.now.nodes }
-    ensures kept { IsKept net.now (of_units unit p) side.new result.0 result.1 }
-    ensures smallest { IsSmallestLeast (network_at net.now (of_units unit p)) side.new }
+    ensures smallest { IsSmallestLeast (network_at net.now (fraction_of at.now)) side.new }
+    ensures few { length side.new ≤ 8192 }
     ensures places { KeepsPlaces scratch.old scratch.new }
 {
-    let frame = net.frame();
-    reach(frame, caps, flow, net.source(), scratch, side);
-    (net.cut_line(side), count_nodes(side))
+    reach(net.frame(), caps, flow, net.source(), scratch, side);
+}
+
+// Seeks the smallest least cut at the parameter, with its line and the number of its nodes.
+fn seek(
+    net: &Net,
+    at: &Parameter,
+    caps: &[i128],
+    flow: &[i128],
+    scratch: &mut Scratch,
+    cut: &mut KeptCut,
+)
+    requires rising { net.now.sense ≡ Rising }
+    requires inside { IsInInterval net.now (fraction_of at.now) }
+    requires bounds { IsBoundedFraction (fraction_of at.now) }
+    requires caps { caps.now ≡ caps_of net.now at.now.unit at.now.p }
+    requires greatest { IsGreatest (network_at net.now (fraction_of at.now)) flow.now }
+    requires room { Serves scratch.old net.now.nodes (length net.now.arcs) }
+    requires places { length cut.old.side.items ≡ net.now.nodes }
+    ensures kept { IsKept net.now (fraction_of at.now) cut.new }
+    ensures smallest { IsSmallestLeast (network_at net.now (fraction_of at.now)) cut.new.side.items }
+    ensures places { KeepsPlaces scratch.old scratch.new }
+{
+    write_side(net, at, caps, flow, scratch, cut.side.as_mut_slice());
+    let side = cut.side.as_slice();
+    let line = net.cut_line(side);
+    let size = count_nodes(side);
+    cut.line = line;
+    cut.size = size;
 }
 
 // The value of a line at the parameter `p/unit`, in units of `1/unit`.
-fn line_value(line: &Line, unit: i128, p: i128) -> i128
-    requires { IsBoundedFraction (of_units unit p) }
-    ensures { result ≡ value_at line.now (of_units unit p) }
+fn line_value(line: &Line, at: &Parameter) -> i128
+    requires { IsBoundedFraction (fraction_of at.now) }
+    ensures { result ≡ value_at line.now (fraction_of at.now) }
 {
-    line.a() * unit + line.b() * p
+    line.a() * at.unit + line.b() * at.p
 }
 
 // Whether the line of the kept cut is the value of the flow still.
-fn is_least_still(net: &Net, unit: i128, p: i128, flow: &[i128], line: &Line) -> bool
-    requires inside { IsInInterval net.now (of_units unit p) }
-    requires bounds { IsBoundedFraction (of_units unit p) }
-    requires greatest { IsGreatest (network_at net.now (of_units unit p)) flow.now }
+fn is_least_still(net: &Net, at: &Parameter, flow: &[i128], line: &Line) -> bool
+    requires inside { IsInInterval net.now (fraction_of at.now) }
+    requires bounds { IsBoundedFraction (fraction_of at.now) }
+    requires greatest { IsGreatest (network_at net.now (fraction_of at.now)) flow.now }
     ensures built { IsBuilt net.now }
-    ensures least { result ≡ true → value_at line.now (of_units unit p) ≡ flow_value (map ends_of net.now.arcs) flow.now net.now.source }
+    ensures least { result ≡ true → value_at line.now (fraction_of at.now) ≡ flow_value (map ends_of net.now.arcs) flow.now net.now.source }
 {
     let least = value(net.frame(), net.source(), flow);
-    let here = line_value(line, unit, p);
+    let here = line_value(line, at);
     here == least
 }
 
@@ -227,107 +258,112 @@ fn is_least_still(net: &Net, unit: i128, p: i128, flow: &[i128], line: &Line) ->
 // is the smallest least one.
 fn keep(
     net: &Net,
-    unit: i128,
-    p: i128,
+    at: &Parameter,
     caps: &[i128],
     flow: &[i128],
     scratch: &mut Scratch,
-    side: &mut [bool],
-    line: Line,
-    count: u32,
-) -> (Line, u32)
-    requires inside { IsInInterval net.now (of_units unit p) }
-    requires bounds { IsBoundedFraction (of_units unit p) }
-    requires caps { caps.now ≡ caps_of net.now unit p }
-    requires greatest { IsGreatest (network_at net.now (of_units unit p)) flow.now }
+    cut: &mut KeptCut,
+)
+    requires inside { IsInInterval net.now (fraction_of at.now) }
+    requires bounds { IsBoundedFraction (fraction_of at.now) }
+    requires caps { caps.now ≡ caps_of net.now at.now.unit at.now.p }
+    requires greatest { IsGreatest (network_at net.now (fraction_of at.now)) flow.now }
     requires room { Serves scratch.old net.now.nodes (length net.now.arcs) }
-    requires kept { IsKept net.now (of_units unit p) side.old line count }
-    ensures kept { IsKept net.now (of_units unit p) side.new result.0 result.1 }
-    ensures smallest { IsSmallestLeast (network_at net.now (of_units unit p)) side.new }
+    requires kept { IsKept net.now (fraction_of at.now) cut.old }
+    ensures kept { IsKept net.now (fraction_of at.now) cut.new }
+    ensures smallest { IsSmallestLeast (network_at net.now (fraction_of at.now)) cut.new.side.items }
     ensures places { KeepsPlaces scratch.old scratch.new }
 {
-    if is_least_still(net, unit, p, flow, &line) {
-        return (line, count);
+    if is_least_still(net, at, flow, &cut.line) {
+        return;
     }
-    seek(net, unit, p, caps, flow, scratch, side)
+    seek(net, at, caps, flow, scratch, cut);
 }
 
-// The row of a parameter, of the line and the size of the smallest least cut.
-fn row_of(net: &Net, unit: i128, p: i128, side: &[bool], line: Line, count: u32) -> SweepRow
-    requires inside { IsInInterval net.now (of_units unit p) }
-    requires bounds { IsBoundedFraction (of_units unit p) }
-    requires kept { IsKept net.now (of_units unit p) side.now line count }
-    requires smallest { IsSmallestLeast (network_at net.now (of_units unit p)) side.now }
-    ensures { IsRightRow net.now (lowest (of_units unit p)) result }
+// The parameter in lowest terms `p/q`, and the value of the line there in units of `1/q`.
+fn in_lowest_terms(line: &Line, at: &Parameter) -> (Rat, i128)
+    requires { IsBoundedFraction (fraction_of at.now) }
+    ensures value { result.1 ≡ value_at line.now result.0 }
+    ensures at { result.0 ≡ lowest (fraction_of at.now) }
+    ensures bounds { IsBoundedFraction result.0 }
+    ensures line { IsBoundedLine line.now }
+{
+    let _ = line.a();
+    let lowest = Rat::new(at.p, at.unit);
+    let value = line.at(&lowest);
+    (lowest, value)
+}
+
+// The row of a parameter, of the smallest least cut there.
+fn row_of(net: &Net, at: &Parameter, cut: &KeptCut) -> SweepRow
+    requires inside { IsInInterval net.now (fraction_of at.now) }
+    requires bounds { IsBoundedFraction (fraction_of at.now) }
+    requires kept { IsKept net.now (fraction_of at.now) cut.now }
+    requires smallest { IsSmallestLeast (network_at net.now (fraction_of at.now)) cut.now.side.items }
+    ensures { IsRightRow net.now (lowest (fraction_of at.now)) result }
 {
     let _ = net.frame().nodes();
-    let at = Rat::new(p, unit);
-    let _ = line.a();
-    let least = line.at(&at);
+    let (at, least) = in_lowest_terms(&cut.line, at);
     SweepRow {
         at,
         least,
-        nodes: count,
+        nodes: cut.size,
     }
 }
 
-// The row of the kept cut at `p/unit`, if its line has the least value at the later parameter `y/unit` too. The cut is then the smallest
-// least one at both, and so between them.
+// The row of the kept cut at a parameter, if its line has the least value at a later one too. The cut is then the smallest least one at
+// both, and so between them.
 fn row_between(
     net: &Net,
-    unit: i128,
-    y: i128,
+    at: &Parameter,
+    later: &Parameter,
     least: i128,
-    p: i128,
-    side: &[bool],
-    line: Line,
-    count: u32,
+    cut: &KeptCut,
 ) -> Option<SweepRow>
-    requires inside { IsInInterval net.now (of_units unit p) }
-    requires far { IsInInterval net.now (of_units unit y) }
-    requires bounds { IsBoundedFraction (of_units unit p) }
-    requires wide { IsBoundedFraction (of_units unit y) }
-    requires before { p ≤ℤ y }
-    requires least { IsLeastValue (network_at net.now (of_units unit y)) least }
-    requires kept { IsKept net.now (of_units unit p) side.now line count }
-    ensures { IfSome result (IsRightRow net.now (lowest (of_units unit p))) }
+    requires inside { IsInInterval net.now (fraction_of at.now) }
+    requires far { IsInInterval net.now (fraction_of later.now) }
+    requires bounds { IsBoundedFraction (fraction_of at.now) }
+    requires wide { IsBoundedFraction (fraction_of later.now) }
+    requires before { IsAtMost (fraction_of at.now) (fraction_of later.now) }
+    requires least { IsLeastValue (network_at net.now (fraction_of later.now)) least }
+    requires kept { IsKept net.now (fraction_of at.now) cut.now }
+    ensures { IfSome result (IsRightRow net.now (lowest (fraction_of at.now))) }
 {
     let _ = net.frame().nodes();
-    if line_value(&line, unit, y) == least {
-        return Some(row_of(net, unit, p, side, line, count));
+    if line_value(&cut.line, later) == least {
+        return Some(row_of(net, at, cut));
     }
     None
 }
 
-// A greatest flow at the parameter `p/unit` of the interval, made from nothing, and the smallest least cut there.
+// A greatest flow at the parameter of the interval, made from nothing, and the smallest least cut there.
 fn start_at(
     net: &Net,
     engine: &mut Engine,
-    scratch: &mut Scratch,
-    unit: i128,
-    p: i128,
+    at: &Parameter,
     caps: &mut [i128],
     flow: &mut [i128],
-    side: &mut [bool],
-) -> (Line, u32)
+    scratch: &mut Scratch,
+    cut: &mut KeptCut,
+)
     requires rising { net.now.sense ≡ Rising }
-    requires bounds { IsBoundedFraction (of_units unit p) }
-    requires inside { IsInInterval net.now (of_units unit p) }
+    requires bounds { IsBoundedFraction (fraction_of at.now) }
+    requires inside { IsInInterval net.now (fraction_of at.now) }
     requires engine { IsEngineOf net.now engine.old }
     requires caps { length caps.old ≡ length net.now.arcs }
     requires flow { length flow.old ≡ length net.now.arcs }
     requires room { Serves scratch.old net.now.nodes (length net.now.arcs) }
-    requires places { length side.old ≡ net.now.nodes }
+    requires places { length cut.old.side.items ≡ net.now.nodes }
     ensures engine { IsEngineOf net.now engine.new }
-    ensures caps { caps.new ≡ caps_of net.now unit p }
-    ensures greatest { IsGreatest (network_at net.now (of_units unit p)) flow.new }
-    ensures valid { HasValidLabels (network_at net.now (of_units unit p)) flow.new engine.new.labels }
+    ensures caps { caps.new ≡ caps_of net.now at.now.unit at.now.p }
+    ensures greatest { IsGreatest (network_at net.now (fraction_of at.now)) flow.new }
+    ensures valid { HasValidLabels (network_at net.now (fraction_of at.now)) flow.new engine.new.labels }
     ensures low { AreLow net.now.nodes engine.new.labels }
-    ensures kept { IsKept net.now (of_units unit p) side.new result.0 result.1 }
+    ensures kept { IsKept net.now (fraction_of at.now) cut.new }
     ensures places { KeepsPlaces scratch.old scratch.new }
 {
-    move_first(net, engine, unit, p, caps, flow);
-    seek(net, unit, p, caps, flow, scratch, side)
+    move_first(net, engine, at, caps, flow);
+    seek(net, at, caps, flow, scratch, cut);
 }
 
 // A sweep whose unit is not too great.
@@ -347,28 +383,28 @@ fn open<'a>(alloc: Global, net: &'a Net, unit: i128) -> Result<Sweep<'a>, NoMemo
     let mut scratch = Scratch::make(alloc, nodes, arcs)?;
     let mut caps = vec![in alloc; 0i128; arcs]?;
     let mut flow = vec![in alloc; 0i128; arcs]?;
-    let mut side = vec![in alloc; false; nodes]?;
-    let (line, count) = start_at(
+    let mut cut = KeptCut {
+        side: vec![in alloc; false; nodes]?,
+        line: Line::new(0, 0),
+        size: 0,
+    };
+    start_at(
         net,
         &mut engine,
-        &mut scratch,
-        unit,
-        at,
+        &at,
         &mut caps,
         &mut flow,
-        &mut side,
+        &mut scratch,
+        &mut cut,
     );
     Ok(Sweep {
         net,
-        unit,
         at,
         engine,
         scratch,
         caps,
         flow,
-        side,
-        line,
-        count,
+        cut,
     })
 }
 
@@ -396,12 +432,11 @@ impl<'a> Sweep<'a> {
         requires later { self.old.at ≤ℤ p }
         ensures { IsAdvanced self.old self.new p steps.old steps.new }
     {
-        self.at = p;
+        self.at.p = p;
         move_on(
             self.net,
             &mut self.engine,
-            self.unit,
-            p,
+            &self.at,
             &mut self.caps,
             &mut self.flow,
             steps,
@@ -422,16 +457,14 @@ impl<'a> Sweep<'a> {
         ensures smallest { IsSmallestLeast (network_of_sweep self.old) side.new }
         ensures same { self.new ≡ self.old }
     {
-        let (line, count) = seek(
+        write_side(
             self.net,
-            self.unit,
-            self.at,
+            &self.at,
             &self.caps,
             &self.flow,
             &mut self.scratch,
             side,
         );
-        let _ = (line, count);
     }
 
     /// One label for each node: the number of nodes at the source, 0 at the sink, at most `2n - 2` anywhere.
@@ -459,9 +492,10 @@ impl<'a> Sweep<'a> {
         requires least { IsLeastValue (network_at self.now.net (of_units self.now.unit y)) least }
         ensures { IfSome result (IsRightRow self.now.net (lowest (of_units self.now.unit p))) }
     {
-        row_between(
-            self.net, self.unit, y, least, p, &self.side, self.line, self.count,
-        )
+        let unit = self.at.unit;
+        let at = Parameter { p, unit };
+        let later = Parameter { p: y, unit };
+        row_between(self.net, &at, &later, least, &self.cut)
     }
 
     /// The row of the parameter: the parameter in lowest terms, the least value there in units of `1/q` of that fraction, and the
@@ -470,19 +504,14 @@ impl<'a> Sweep<'a> {
         ensures right { IsRightRow self.old.net (lowest (parameter_of self.old)) result }
         ensures same { self.new ≡ self.old }
     {
-        let (line, count) = keep(
+        keep(
             self.net,
-            self.unit,
-            self.at,
+            &self.at,
             &self.caps,
             &self.flow,
             &mut self.scratch,
-            &mut self.side,
-            self.line,
-            self.count,
+            &mut self.cut,
         );
-        self.line = line;
-        self.count = count;
-        row_of(self.net, self.unit, self.at, &self.side, line, count)
+        row_of(self.net, &self.at, &self.cut)
     }
 }

@@ -9,16 +9,16 @@ pub overflow_add-result : goal.overflow_add-result
 overflow_add-result c =
     let s = c.requires.small in
     let f = c.requires.bounds in
-    let b = short c.args.arc.now (of_units c.args.unit c.args.p) s f in
+    let b = short c.args.arc.now (of_units c.args.at.now.unit c.args.at.now.p) s f in
     let first : c.from.result ≡ c.args.arc.now.a = omega (arith, ints, c.from.ensures, s.a_low, s.a_high) in
     let second : c.from-2.result ≡ c.args.arc.now.b = omega (arith, ints, c.from-2.ensures, s.b_low, s.b_high) in
     rw (
       first,
       second,
       comes_back c.args.arc.now.a (omega (arith, ints, s.a_low, s.a_high)),
-      comes_back c.args.unit (omega (arith, ints, f.parameter, f.q_high)),
+      comes_back c.args.at.now.unit (omega (arith, ints, f.parameter, f.q_high)),
       comes_back c.args.arc.now.b (omega (arith, ints, s.b_low, s.b_high)),
-      comes_back c.args.p (omega (arith, ints, f.p_low, f.p_high)),
+      comes_back c.args.at.now.p (omega (arith, ints, f.p_low, f.p_high)),
     )
     (omega (arith, ints, b.constant, b.slope))
 
@@ -26,15 +26,15 @@ pub returns : goal.returns
 returns c =
     let s = c.requires.small in
     let f = c.requires.bounds in
-    let b = short c.args.arc.now (of_units c.args.unit c.args.p) s f in
+    let b = short c.args.arc.now (of_units c.args.at.now.unit c.args.at.now.p) s f in
     let first : c.from.result ≡ c.args.arc.now.a = omega (arith, ints, c.from.ensures, s.a_low, s.a_high) in
     let second : c.from-2.result ≡ c.args.arc.now.b = omega (arith, ints, c.from-2.ensures, s.b_low, s.b_high) in
     rw (
       first,
       second,
       comes_back c.args.arc.now.a (omega (arith, ints, s.a_low, s.a_high)),
-      comes_back c.args.unit (omega (arith, ints, f.parameter, f.q_high)),
+      comes_back c.args.at.now.unit (omega (arith, ints, f.parameter, f.q_high)),
       comes_back c.args.arc.now.b (omega (arith, ints, s.b_low, s.b_high)),
-      comes_back c.args.p (omega (arith, ints, f.p_low, f.p_high)),
+      comes_back c.args.at.now.p (omega (arith, ints, f.p_low, f.p_high)),
     )
     (omega (arith, ints, b.constant, b.slope))

@@ -1,12 +1,10 @@
 use Rattle.std.proofs.Common.{◌+◌, arith, sym, ◌∙◌, refl}
-use Rattle.std.proofs.lemmas.Int.{to_z-of_z}
 use Rattle.std.proofs.lemmas.List.{length-map}
 use Rattle.pf_model.specs.Network.{ends_of}
 use Rattle.pf_frame.proofs.Steps.{out_item, in_item}
 use Rattle.pf_net.specs.Limits.{digraph_of}
 use Rattle.pf_sweep.proofs.Moved.{StandsBefore, IsPast, moving_begins, moving_bounds, moving_more, moving_ends, second_begins, before_more, past_more}
 use Rattle.pf_sweep.proofs.moving.touch_ends.Goals as goal
-use mir.Syntax.{w128}
 
 pub outs-init : goal.outs-init
 outs-init c = record {
@@ -22,13 +20,13 @@ touch-requires-clause-arc c =
 pub touch-requires-clause-low : goal.touch-requires-clause-low
 touch-requires-clause-low c =
     let n = out_item (digraph_of c.args.net.now) _ c.outs.i-index _ c.outs.invariant.items (omega arith) in
-    let m = rw (to_z-of_z w128 c.args.unit c.ranges.unit, to_z-of_z w128 c.args.p c.ranges.p) at c.outs.invariant.moving in
+    let m = c.outs.invariant.moving in
     (moving_bounds _ _ _ _ _ _ _ _ _ _ c.requires.wanted c.requires.flow m n.in_range).0
 
 pub touch-requires-clause-high : goal.touch-requires-clause-high
 touch-requires-clause-high c =
     let n = out_item (digraph_of c.args.net.now) _ c.outs.i-index _ c.outs.invariant.items (omega arith) in
-    let m = rw (to_z-of_z w128 c.args.unit c.ranges.unit, to_z-of_z w128 c.args.p c.ranges.p) at c.outs.invariant.moving in
+    let m = c.outs.invariant.moving in
     (moving_bounds _ _ _ _ _ _ _ _ _ _ c.requires.wanted c.requires.flow m n.in_range).1
 
 pub outs-preserved : goal.outs-preserved
@@ -54,13 +52,13 @@ touch-requires-in-ins-clause-arc c =
 pub touch-requires-in-ins-clause-low : goal.touch-requires-in-ins-clause-low
 touch-requires-in-ins-clause-low c =
     let n = in_item (digraph_of c.args.net.now) _ c.ins.i-index _ c.ins.invariant.items (omega arith) in
-    let m = rw (to_z-of_z w128 c.args.unit c.ranges.unit, to_z-of_z w128 c.args.p c.ranges.p) at c.ins.invariant.moving in
+    let m = c.ins.invariant.moving in
     (moving_bounds _ _ _ _ _ _ _ _ _ _ c.requires.wanted c.requires.flow m n.in_range).0
 
 pub touch-requires-in-ins-clause-high : goal.touch-requires-in-ins-clause-high
 touch-requires-in-ins-clause-high c =
     let n = in_item (digraph_of c.args.net.now) _ c.ins.i-index _ c.ins.invariant.items (omega arith) in
-    let m = rw (to_z-of_z w128 c.args.unit c.ranges.unit, to_z-of_z w128 c.args.p c.ranges.p) at c.ins.invariant.moving in
+    let m = c.ins.invariant.moving in
     (moving_bounds _ _ _ _ _ _ _ _ _ _ c.requires.wanted c.requires.flow m n.in_range).1
 
 pub ins-preserved : goal.ins-preserved
@@ -76,5 +74,5 @@ ins-preserved c =
 
 pub returns : goal.returns
 returns c =
-    let m = rw (to_z-of_z w128 c.args.unit c.ranges.unit, to_z-of_z w128 c.args.p c.ranges.p) at c.ins.invariant.moving in
+    let m = c.ins.invariant.moving in
     moving_ends _ _ _ _ _ _ _ _ _ c.ins-i-items.result.now c.ins.i-index c.ins.invariant.items (omega arith) m

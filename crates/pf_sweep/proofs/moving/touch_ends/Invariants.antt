@@ -7,12 +7,12 @@ use Rattle.pf_sweep.proofs.moving.touch_ends.Given as goal
 
 abbrev pub invariant-outs : goal.invariant-outs
 invariant-outs l = record {
-  moving : IsMoving (digraph_of l.net) l.labels l.net.source (caps_of l.net l.unit l.p) l.fn.caps l.fn.flow l.caps l.flow (StandsBefore l.i-items l.i-index);
+  moving : IsMoving (digraph_of l.net) l.labels l.net.source (caps_of l.net l.at.unit l.at.p) l.fn.caps l.fn.flow l.caps l.flow (StandsBefore l.i-items l.i-index);
   items : l.i-items ≡ arcs_out (digraph_of l.net) l.net.source;
 }
 
 abbrev pub invariant-ins : goal.invariant-ins
 invariant-ins l = record {
-  moving : IsMoving (digraph_of l.net) l.labels l.net.source (caps_of l.net l.unit l.p) l.fn.caps l.fn.flow l.caps l.flow (IsPast (digraph_of l.net) l.net.source l.i-items l.i-index);
+  moving : IsMoving (digraph_of l.net) l.labels l.net.source (caps_of l.net l.at.unit l.at.p) l.fn.caps l.fn.flow l.caps l.flow (IsPast (digraph_of l.net) l.net.source l.i-items l.i-index);
   items : l.i-items ≡ arcs_in (digraph_of l.net) l.net.sink;
 }

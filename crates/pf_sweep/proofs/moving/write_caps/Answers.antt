@@ -1,5 +1,5 @@
 use Rattle.std.proofs.Common.{◌≡◌, ◌<◌, length, arith, ap, sym, ◌∙◌, to_z, of_z, set}
-use Rattle.std.proofs.lemmas.Int.{ints, to_z-of_z}
+use Rattle.std.proofs.lemmas.Int.{ints}
 use Rattle.std.proofs.lemmas.List.{length-map}
 use Rattle.pf_model.specs.Network.{capacity_at}
 use Rattle.pf_model.proofs.Affine.{no_arc}
@@ -11,7 +11,7 @@ use Rattle.pf_sweep.proofs.moving.write_caps.Goals as goal
 use mir.Syntax.{w128}
 
 pub each-init : goal.each-init
-each-init c = written_begins _ c.args.caps.now (c.requires.caps ∙ sym (length-map c.args.net.now.arcs (capacity_at (of_units (to_z w128 (of_z w128 c.args.unit)) (to_z w128 (of_z w128 c.args.p))))))
+each-init c = written_begins _ c.args.caps.now (c.requires.caps ∙ sym (length-map c.args.net.now.arcs (capacity_at (of_units c.args.at.now.unit c.args.at.now.p))))
 
 pub capacity-cap-requires-clause-small : goal.capacity-cap-requires-clause-small
 capacity-cap-requires-clause-small c =
@@ -22,36 +22,35 @@ pub put-requires-clause-low : goal.put-requires-clause-low
 put-requires-clause-low c =
     let counted = arc_counted c.args.net.now c.frame-frame.result.now c.arcs-count.result c.frame-frame.ensures.frame c.arcs-count.ensures.value in
     let low : c.each.i < length c.args.net.now.arcs = omega (arith, counted) in
-    let e = rw (to_z-of_z w128 c.args.unit c.ranges.unit, to_z-of_z w128 c.args.p c.ranges.p) at c.capacity-cap.ensures in
-    let wanted = wanted_here c.args.net.now c.args.unit c.args.p c.capacity-cap.result c.arc-arc.result c.each.i low c.arc-arc.ensures e in
-    let b = wanted_bounds c.args.net.now c.args.unit c.args.p c.capacity-cap.result c.each.i c.requires.wanted low wanted in
+    let e = c.capacity-cap.ensures in
+    let wanted = wanted_here c.args.net.now c.args.at.now.unit c.args.at.now.p c.capacity-cap.result c.arc-arc.result c.each.i low c.arc-arc.ensures e in
+    let b = wanted_bounds c.args.net.now c.args.at.now.unit c.args.at.now.p c.capacity-cap.result c.each.i c.requires.wanted low wanted in
     omega (arith, ints, b.0, b.1)
 
 pub put-requires-clause-high : goal.put-requires-clause-high
 put-requires-clause-high c =
     let counted = arc_counted c.args.net.now c.frame-frame.result.now c.arcs-count.result c.frame-frame.ensures.frame c.arcs-count.ensures.value in
     let low : c.each.i < length c.args.net.now.arcs = omega (arith, counted) in
-    let e = rw (to_z-of_z w128 c.args.unit c.ranges.unit, to_z-of_z w128 c.args.p c.ranges.p) at c.capacity-cap.ensures in
-    let wanted = wanted_here c.args.net.now c.args.unit c.args.p c.capacity-cap.result c.arc-arc.result c.each.i low c.arc-arc.ensures e in
-    let b = wanted_bounds c.args.net.now c.args.unit c.args.p c.capacity-cap.result c.each.i c.requires.wanted low wanted in
+    let e = c.capacity-cap.ensures in
+    let wanted = wanted_here c.args.net.now c.args.at.now.unit c.args.at.now.p c.capacity-cap.result c.arc-arc.result c.each.i low c.arc-arc.ensures e in
+    let b = wanted_bounds c.args.net.now c.args.at.now.unit c.args.at.now.p c.capacity-cap.result c.each.i c.requires.wanted low wanted in
     omega (arith, ints, b.0, b.1)
 
 pub each-preserved : goal.each-preserved
 each-preserved c =
     let counted = arc_counted c.args.net.now c.frame-frame.result.now c.arcs-count.result c.frame-frame.ensures.frame c.arcs-count.ensures.value in
     let low : c.each.i < length c.args.net.now.arcs = omega (arith, counted) in
-    let e = rw (to_z-of_z w128 c.args.unit c.ranges.unit, to_z-of_z w128 c.args.p c.ranges.p) at c.capacity-cap.ensures in
-    let wanted = wanted_here c.args.net.now c.args.unit c.args.p c.capacity-cap.result c.arc-arc.result c.each.i low c.arc-arc.ensures e in
-    let b = wanted_bounds c.args.net.now c.args.unit c.args.p c.capacity-cap.result c.each.i c.requires.wanted low wanted in
+    let e = c.capacity-cap.ensures in
+    let wanted = wanted_here c.args.net.now c.args.at.now.unit c.args.at.now.p c.capacity-cap.result c.arc-arc.result c.each.i low c.arc-arc.ensures e in
+    let b = wanted_bounds c.args.net.now c.args.at.now.unit c.args.at.now.p c.capacity-cap.result c.each.i c.requires.wanted low wanted in
     let back : to_z w128 (of_z w128 c.capacity-cap.result) ≡ c.capacity-cap.result = omega (arith, ints, b.0, b.1) in
-    let w = rw (to_z-of_z w128 c.args.unit c.ranges.unit, to_z-of_z w128 c.args.p c.ranges.p) at c.each.invariant in
-    rw (to_z-of_z w128 c.args.unit c.ranges.unit, to_z-of_z w128 c.args.p c.ranges.p)
-    (written_more (caps_of c.args.net.now c.args.unit c.args.p) c.each.caps c.put.new.numbers c.each.i w
-    (omega (arith, low, length-map c.args.net.now.arcs (capacity_at (of_units c.args.unit c.args.p)))) (c.put.ensures ∙ ap (λ z. set c.each.caps c.each.i z) (back ∙ wanted)))
+    let w = c.each.invariant in
+    (written_more (caps_of c.args.net.now c.args.at.now.unit c.args.at.now.p) c.each.caps c.put.new.numbers c.each.i w
+    (omega (arith, low, length-map c.args.net.now.arcs (capacity_at (of_units c.args.at.now.unit c.args.at.now.p)))) (c.put.ensures ∙ ap (λ z. set c.each.caps c.each.i z) (back ∙ wanted)))
 
 pub returns : goal.returns
 returns c =
     let counted = arc_counted c.args.net.now c.frame-frame.result.now c.arcs-count.result c.frame-frame.ensures.frame c.arcs-count.ensures.value in
-    let w = rw (to_z-of_z w128 c.args.unit c.ranges.unit, to_z-of_z w128 c.args.p c.ranges.p) at c.each.invariant in
-    written_ends (caps_of c.args.net.now c.args.unit c.args.p) c.each.caps c.each.i w
-    (omega (arith, counted, length-map c.args.net.now.arcs (capacity_at (of_units c.args.unit c.args.p))))
+    let w = c.each.invariant in
+    written_ends (caps_of c.args.net.now c.args.at.now.unit c.args.at.now.p) c.each.caps c.each.i w
+    (omega (arith, counted, length-map c.args.net.now.arcs (capacity_at (of_units c.args.at.now.unit c.args.at.now.p))))

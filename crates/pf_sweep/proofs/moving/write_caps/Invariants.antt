@@ -3,4 +3,4 @@ use Rattle.pf_sweep.proofs.Onward.{IsWritten}
 use Rattle.pf_sweep.proofs.moving.write_caps.Given as goal
 
 abbrev pub invariant-each : goal.invariant-each
-invariant-each l = IsWritten (caps_of l.net l.unit l.p) l.caps l.i
+invariant-each l = IsWritten (caps_of l.net l.at.unit l.at.p) l.caps l.i

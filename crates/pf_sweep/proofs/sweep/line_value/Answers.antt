@@ -8,14 +8,14 @@ pub overflow_add-result : goal.overflow_add-result
 overflow_add-result c =
     let f = c.requires in
     let l = c.a.ensures.bounds in
-    let v = line_value c.args.line.now (of_units c.args.unit c.args.p) l f in
+    let v = line_value c.args.line.now (of_units c.args.at.now.unit c.args.at.now.p) l f in
     rw (
       c.a.ensures.value,
       c.b.ensures.value,
       comes_back c.args.line.now.a (omega (arith, ints, l.a_low, l.a_high)),
-      comes_back c.args.unit (omega (arith, ints, f.parameter, f.q_high)),
+      comes_back c.args.at.now.unit (omega (arith, ints, f.parameter, f.q_high)),
       comes_back c.args.line.now.b (omega (arith, ints, l.b_low, l.b_high)),
-      comes_back c.args.p (omega (arith, ints, f.p_low, f.p_high)),
+      comes_back c.args.at.now.p (omega (arith, ints, f.p_low, f.p_high)),
     )
     (omega (arith, ints, v.0, v.1))
 
@@ -23,13 +23,13 @@ pub returns : goal.returns
 returns c =
     let f = c.requires in
     let l = c.a.ensures.bounds in
-    let v = line_value c.args.line.now (of_units c.args.unit c.args.p) l f in
+    let v = line_value c.args.line.now (of_units c.args.at.now.unit c.args.at.now.p) l f in
     rw (
       c.a.ensures.value,
       c.b.ensures.value,
       comes_back c.args.line.now.a (omega (arith, ints, l.a_low, l.a_high)),
-      comes_back c.args.unit (omega (arith, ints, f.parameter, f.q_high)),
+      comes_back c.args.at.now.unit (omega (arith, ints, f.parameter, f.q_high)),
       comes_back c.args.line.now.b (omega (arith, ints, l.b_low, l.b_high)),
-      comes_back c.args.p (omega (arith, ints, f.p_low, f.p_high)),
+      comes_back c.args.at.now.p (omega (arith, ints, f.p_low, f.p_high)),
     )
     (omega (arith, ints, v.0, v.1))

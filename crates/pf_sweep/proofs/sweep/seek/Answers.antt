@@ -1,36 +1,28 @@
-use Rattle.std.proofs.Common.{arith}
-use Rattle.pf_sweep.proofs.Keeping.{within_found, caps_found, found, network_cut, kept_new}
+use Rattle.std.proofs.Common.{List, length, drop, arith, ap, sym, ◌∙◌, subst}
+use Rattle.std.specs.Prelude.{Bool}
+use Rattle.pf_model.specs.Cut.{IsSmallestLeast, size}
+use Rattle.pf_model.specs.Network.{network_at, line_of}
+use Rattle.pf_preflow.proofs.Lent.{back}
+use Rattle.pf_sweep.specs.Parameters.{fraction_of}
+use Rattle.pf_sweep.proofs.Keeping.{network_cut, kept_new}
 use Rattle.pf_sweep.proofs.sweep.seek.Goals as goal
 
-pub reach-requires-clause-caps : goal.reach-requires-clause-caps
-reach-requires-clause-caps c =
-    caps_found c.args.net.now c.args.unit c.args.p c.frame-frame.result.now c.args.caps.now c.frame-frame.ensures.frame c.requires.caps c.frame-frame.ensures.built c.requires.inside c.requires.bounds
-
-pub reach-requires-clause-flow : goal.reach-requires-clause-flow
-reach-requires-clause-flow c =
-    within_found c.args.net.now c.args.unit c.args.p c.frame-frame.result.now _ c.args.caps.now c.args.flow.now c.frame-frame.ensures.frame c.requires.caps c.requires.greatest
-
-pub cut_line-requires : goal.cut_line-requires
-cut_line-requires c =
-    let s = found c.args.net.now c.args.unit c.args.p c.frame-frame.result.now c.source.result c.args.caps.now c.args.flow.now c.reach.new.side c.frame-frame.ensures.built c.frame-frame.ensures.frame
-    c.source.ensures c.requires.caps c.requires.greatest c.reach.ensures.smallest in
-    network_cut c.args.net.now c.args.unit c.args.p c.reach.new.side s
-
-pub count_nodes-requires : goal.count_nodes-requires
-count_nodes-requires c =
-    let s = found c.args.net.now c.args.unit c.args.p c.frame-frame.result.now c.source.result c.args.caps.now c.args.flow.now c.reach.new.side c.frame-frame.ensures.built c.frame-frame.ensures.frame
-    c.source.ensures c.requires.caps c.requires.greatest c.reach.ensures.smallest in
-    let few = c.frame-frame.ensures.built.limits.nodes in
-    let full = s.least.cut.full in
-    omega (arith, few, full)
+pub cut_line-line-requires : goal.cut_line-line-requires
+cut_line-line-requires c =
+    let e = back c.args.cut.now.side.len c.write_side.new.side (drop (length c.write_side.new.side) c.args.cut.now.side.items)
+    (omega (arith, c.args.cut.now.side.ok.0, c.write_side.auto.side, c.as_mut_slice.ensures.len)) in
+    let P : List Bool → Type 0 = λ l. IsSmallestLeast (network_at c.args.net.now (fraction_of c.args.at.now)) l in
+    network_cut c.args.net.now c.args.at.now.unit c.args.at.now.p _ (subst P (sym (c.as_slice-side.ensures.value ∙ e)) c.write_side.ensures.smallest)
 
 pub returns-clause-kept : goal.returns-clause-kept
 returns-clause-kept c =
-    let s = found c.args.net.now c.args.unit c.args.p c.frame-frame.result.now c.source.result c.args.caps.now c.args.flow.now c.reach.new.side c.frame-frame.ensures.built c.frame-frame.ensures.frame
-    c.source.ensures c.requires.caps c.requires.greatest c.reach.ensures.smallest in
-    kept_new c.args.net.now c.args.unit c.args.p c.reach.new.side _ _ c.requires.rising c.requires.inside s c.cut_line.ensures c.count_nodes.ensures
+    let e = back c.args.cut.now.side.len c.write_side.new.side (drop (length c.write_side.new.side) c.args.cut.now.side.items)
+    (omega (arith, c.args.cut.now.side.ok.0, c.write_side.auto.side, c.as_mut_slice.ensures.len)) in
+    kept_new c.args.net.now (fraction_of c.args.at.now) c.write_side.new.side _ c.requires.rising c.requires.inside c.write_side.ensures.smallest e
+    (c.cut_line-line.ensures ∙ ap (line_of c.args.net.now) c.as_slice-side.ensures.value) (c.count_nodes-size.ensures ∙ ap size c.as_slice-side.ensures.value)
 
 pub returns-clause-smallest : goal.returns-clause-smallest
 returns-clause-smallest c =
-    found c.args.net.now c.args.unit c.args.p c.frame-frame.result.now c.source.result c.args.caps.now c.args.flow.now c.reach.new.side c.frame-frame.ensures.built c.frame-frame.ensures.frame
-    c.source.ensures c.requires.caps c.requires.greatest c.reach.ensures.smallest
+    let e = back c.args.cut.now.side.len c.write_side.new.side (drop (length c.write_side.new.side) c.args.cut.now.side.items)
+    (omega (arith, c.args.cut.now.side.ok.0, c.write_side.auto.side, c.as_mut_slice.ensures.len)) in
+    rw e c.write_side.ensures.smallest
