@@ -1,3 +1,4 @@
+pub mod Lent
 pub mod Holding
 pub mod Tree
 pub mod Walk

@@ -1,8 +1,8 @@
 -- What the lists of a forest tell of its vector and its partition.
-use Rattle.std.proofs.Common.{◌≡◌, ◌≢◌, ℕ, ◌+◌, ◌<◌, ◌≤◌, ◌^◌, List, [], ◌∷◌, ◌++◌, length, replicate, take, Bool, true, false, refl, length-append, arith, ap, sym, ◌∙◌, inl, inr, subst}
+use Rattle.std.proofs.Common.{◌≡◌, ◌≢◌, ℕ, ◌+◌, ◌<◌, ◌≤◌, ◌^◌, List, [], ◌∷◌, ◌++◌, length, replicate, Bool, true, false, refl, length-append, arith, ap, sym, ◌∙◌, inl, inr, subst}
 use Rattle.std.specs.Prelude.{ℤ, ◌+ℤ◌, ◌-ℤ◌, ◌*ℤ◌, ◌≤ℤ◌, pos, ◌⊎◌, Option, Some, None}
 use Rattle.std.proofs.Math.ListN.{get_or-append}
-use Rattle.std.proofs.Math.Seq.{get_or-append_seam, take-append_seam}
+use Rattle.std.proofs.Math.Seq.{get_or-append_seam}
 use Rattle.std.proofs.lemmas.Int.{ints}
 use Rattle.std.proofs.lemmas.Bool.{cases_eq}
 use Rattle.pf_model.specs.Cut.{at_arc}
@@ -18,7 +18,8 @@ use Rattle.pf_graph.proofs.Counting.{finer_parts, parts_most}
 use Rattle.pf_graph.proofs.Levels.{singles, length_singles, parts_singles}
 use Rattle.pf_forest.specs.Held.{tail_of, head_of}
 use Rattle.pf_forest.specs.Forest.{IsInRange, MeetsTotal, KeepsForest, IsFilled}
-use Rattle.pf_forest.specs.Filling.{IsForest, CrossingAreFull, AreWithinGoals, IsGoals, AreGoalsOf, IsRaised, HasLists, HasTables, IsStanding, IsStandingAt, IsWhole, level_of}
+use Rattle.pf_forest.specs.Filling.{IsForest, CrossingAreFull, AreWithinGoals, IsGoals, AreGoalsOf, IsRaised, HasLists, IsStanding, IsStandingAt, IsWhole, level_of}
+use Rattle.pf_forest.specs.declared.workspace.Workspace.{Workspace}
 use Rattle.pf_forest.proofs.Filling.{forest_starts}
 use Rattle.pf_forest.proofs.Law.{full_sum, scaled_crossing, best_of_sum}
 
@@ -116,10 +117,10 @@ pub level_seen : (filled : Bool) (x y : Fraction) → level_of filled x ≡ Some
 level_seen true x y e = (refl, cc)
 level_seen false x y e = absurd cc
 
-pub kept_of : (g : WeightedGraph) (filled : Bool) (x : Fraction) (goals vector heads rooms : List ℤ) (groups labels : List ℕ) (side hits : List Bool) (queue via rank : List ℕ) →
-    IsWeightedGraph g → IsWhole g filled x goals vector heads rooms groups labels side hits queue via rank → (y : Fraction) → level_of filled x ≡ Some y →
+pub kept_of : (g : WeightedGraph) (filled : Bool) (x : Fraction) (goals vector heads rooms : List ℤ) (groups labels : List ℕ) (workspace : Workspace) →
+    IsWeightedGraph g → IsWhole g filled x goals vector heads rooms groups labels workspace → (y : Fraction) → level_of filled x ≡ Some y →
     KeepsForest g y vector labels
-kept_of g filled x goals vector heads rooms groups labels side hits queue via rank graph w y e =
+kept_of g filled x goals vector heads rooms groups labels workspace graph w y e =
     let seen = level_seen filled x y e in
     let P : Fraction → Type 0 = λ z. KeepsForest g z vector labels in
     subst P seen.1 (keeps_of g x goals vector heads rooms groups labels graph w.standing (w.at_level seen.0))
@@ -155,10 +156,6 @@ own_more xs ys v e full own =
         | inr other ↦ get_or-append xs (v ∷ []) 0 w (omega (arith, low, other, full)) ∙ own w (omega (arith, low, other))
       ],
     )
-
--- a list that was lent and has its length
-pub back : {A : Type 0} (len : ℕ) (new rest : List A) → len ≡ length new → take len (new ++ rest) ≡ new
-back len new rest e = ap (λ n. take n (new ++ rest)) e ∙ take-append_seam new rest
 
 -- the same, of a graph and a limit that are known by equations
 pub forest_here : (g g' : Digraph) (limit limit' : ℤ) (vector heads rooms : List ℤ) (groups : List ℕ) → g ≡ g' → limit ≡ limit' →

@@ -109,7 +109,7 @@ pub record IsSweep (g : Digraph) (vector heads rooms : List ℤ) (root skip none
   pub vias : length via ≡ g.nodes
   pub ranks : length rank ≡ g.nodes
 
-same_length : (marked : Bool) (xs ys : List ℕ) (w x n : ℕ) → length xs ≡ n → ys ≡ cond marked xs (set xs w x) → length ys ≡ n
+pub same_length : (marked : Bool) (xs ys : List ℕ) (w x n : ℕ) → length xs ≡ n → ys ≡ cond marked xs (set xs w x) → length ys ≡ n
 same_length true xs ys w x n full e = ap length e ∙ full
 same_length false xs ys w x n full e = ap length e ∙ length-set xs w x ∙ full
 

@@ -6,8 +6,9 @@ use Rattle.pf_model.specs.Digraph.{Digraph}
 use Rattle.pf_graph.specs.WeightedGraph.{WeightedGraph, digraph_of, inside, total}
 use Rattle.pf_graph.specs.Labels.{label, occurs, part, parts, crossing, Refines, IsPartitionOf}
 use Rattle.pf_graph.specs.Limits.{IsWithinLimits}
-use Rattle.pf_forest.specs.Held.{IsHeld, tail_of, head_of}
+use Rattle.pf_forest.specs.Held.{IsHeld, HasTables, tail_of, head_of}
 use Rattle.pf_forest.specs.Forest.{IsSparse, bound_of}
+use Rattle.pf_forest.specs.declared.workspace.Workspace.{Workspace}
 
 -- the sum inside this set is the limit times the number of its vertices less one
 pub record IsTight (g : Digraph) (limit : ℤ) (vector : List ℤ) (side : List Bool) : Type 0 where
@@ -46,13 +47,6 @@ touches side groups (suc k) a = (has side k && (label groups k == a)) || touches
 pub record IsJoined (side : List Bool) (groups : List ℕ) (to : ℕ) (now : List ℕ) : Type 0 where
   pub full : length now ≡ length groups
   pub joined : (v : ℕ) → v < length groups → label now v ≡ (if touches side groups (length groups) (label groups v) then to else label groups v)
-
--- the places that a search needs
-pub record HasTables (nodes : ℕ) (side : List Bool) (queue via rank : List ℕ) : Type 0 where
-  pub side_full : length side ≡ nodes
-  pub queue_full : length queue ≡ nodes
-  pub via_full : length via ≡ nodes
-  pub rank_full : length rank ≡ nodes
 
 -- the ends of each edge differ
 pub record HasApartEnds (ends : List (ℕ × ℕ)) : Type 0 where
@@ -118,11 +112,10 @@ pub record IsStandingAt (g : WeightedGraph) (x : Fraction) (goals vector : List 
   pub crossing : CrossingAreFull (digraph_of g) goals vector groups
 
 -- what the type of a forest keeps
-pub record IsWhole (g : WeightedGraph) (filled : Bool) (x : Fraction) (goals vector heads rooms : List ℤ) (groups labels : List ℕ) (side hits : List Bool) (queue via rank : List ℕ) : Type 0 where
+pub record IsWhole (g : WeightedGraph) (filled : Bool) (x : Fraction) (goals vector heads rooms : List ℤ) (groups labels : List ℕ) (workspace : Workspace) : Type 0 where
   pub lists : HasLists g goals vector heads rooms groups labels
   pub standing : IsStanding g x.p vector heads rooms groups labels
-  pub tables : HasTables g.nodes side queue via rank
-  pub hits_full : length hits ≡ g.nodes
+  pub tables : HasTables g.nodes workspace
   pub at_level : filled ≡ true → IsStandingAt g x goals vector groups
 
 -- the level of a forest that is filled

@@ -3,6 +3,7 @@ use Rattle.std.specs.Prelude.{◌≡◌, ◌≢◌, ℕ, ◌<◌, ◌^◌, ℤ, 
 use Rattle.pf_model.specs.Cut.{has, at_arc}
 use Rattle.pf_model.specs.Flow.{sum_out, flow_value}
 use Rattle.pf_model.specs.Digraph.{Digraph}
+use Rattle.pf_forest.specs.declared.workspace.Workspace.{Workspace}
 
 -- the two ends of edge i
 abbrev pub tail_of : List (ℕ × ℕ) → ℕ → ℕ
@@ -66,3 +67,11 @@ pub record IsTree (g : Digraph) (vector heads : List ℤ) (root : ℕ) (side : L
 pub record IsShut (ends : List (ℕ × ℕ)) (vector heads : List ℤ) (side : List Bool) : Type 0 where
   pub out : (i : ℕ) → i < length ends → has side (tail_of ends i) ≡ true → has side (head_of ends i) ≡ false → at_arc vector i ≤ℤ at_arc heads i
   pub into : (i : ℕ) → i < length ends → has side (head_of ends i) ≡ true → has side (tail_of ends i) ≡ false → at_arc heads i ≤ℤ pos 0
+
+-- the places that a search needs
+pub record HasTables (nodes : ℕ) (workspace : Workspace) : Type 0 where
+  pub side_full : length workspace.side.items ≡ nodes
+  pub queue_full : length workspace.queue.items ≡ nodes
+  pub via_full : length workspace.via.items ≡ nodes
+  pub rank_full : length workspace.rank.items ≡ nodes
+  pub hits_full : length workspace.hits.items ≡ nodes

@@ -2,36 +2,27 @@
 ghost use Rattle.std.specs.Prelude.{◌≡◌, ◌≢◌, ℕ, ◌+◌, ◌<◌, ◌≤◌, ◌^◌, ℤ, ◌+ℤ◌, ◌-ℤ◌, ◌≤ℤ◌, ◌<ℤ◌, IsTrue, length, get_or, pos, replicate, slice_set, true, false, if◌then◌else◌};
 ghost use Rattle.pf_model.specs.Cut.{has, at_arc};
 ghost use Rattle.pf_graph.specs.Labels.{label};
-ghost use Rattle.pf_forest.specs.Held.{IsHeld, tail_of, head_of};
+ghost use Rattle.pf_forest.specs.Held.{IsHeld, HasTables, tail_of, head_of};
 ghost use Rattle.pf_forest.specs.Forest.{IsSparse, IsSplit};
-ghost use Rattle.pf_forest.specs.Filling.{IsForest, IsJoined, IsRaised, IsGoals, CrossingAreFull, AreWithinGoals, HasApartEnds, HasTables, HasBounds, IsLifted};
+ghost use Rattle.pf_forest.specs.Filling.{IsForest, IsJoined, IsRaised, IsGoals, CrossingAreFull, AreWithinGoals, HasApartEnds, HasBounds, IsLifted};
 
+use crate::charges::Charges;
 use crate::gather::gather;
+use crate::workspace::Workspace;
 use pf_frame::Frame;
 
 // Moves all that `root` holds to others.
-fn bare(
-    frame: &Frame,
-    limit: i128,
-    vector: &[i128],
-    heads: &mut [i128],
-    rooms: &mut [i128],
-    side: &mut [bool],
-    queue: &mut [u32],
-    via: &mut [u32],
-    rank: &mut [usize],
-    root: u32,
-)
-    requires held { IsHeld frame.now limit vector.now heads.old rooms.old }
-    requires sparse { IsSparse frame.now limit vector.now }
-    requires places { HasTables frame.now.nodes side.old queue.old via.old rank.old }
+fn bare(frame: &Frame, limit: i128, charges: &mut Charges, workspace: &mut Workspace, root: u32)
+    requires held { IsHeld frame.now limit charges.old.vector.items charges.old.heads.items charges.old.rooms.items }
+    requires sparse { IsSparse frame.now limit charges.old.vector.items }
+    requires tables { HasTables frame.now.nodes workspace.old }
     requires root { root < frame.now.nodes }
-    ensures held { IsHeld frame.now limit vector.now heads.new rooms.new }
-    ensures bare { at_arc rooms.new root ≡ limit }
+    ensures vector { charges.new.vector.items ≡ charges.old.vector.items }
+    ensures held { IsHeld frame.now limit charges.new.vector.items charges.new.heads.items charges.new.rooms.items }
+    ensures tables { HasTables frame.now.nodes workspace.new }
+    ensures bare { at_arc charges.new.rooms.items root ≡ limit }
 {
-    gather(
-        frame, limit, vector, heads, rooms, root, root, limit, side, queue, via, rank,
-    );
+    gather(frame, limit, charges, root, root, limit, workspace);
 }
 
 // Puts an amount on edge `e`, into the room of its head `v`.
@@ -55,15 +46,18 @@ fn put(vector: &mut [i128], heads: &mut [i128], rooms: &mut [i128], e: u32, v: u
 }
 
 // Puts on edge `e` as much as the room of its head `v` takes, and its goal.
-fn lift(vector: &mut [i128], heads: &mut [i128], rooms: &mut [i128], e: u32, v: u32, goal: i128)
-    requires edge { e < length vector.old }
-    requires full { length heads.old ≡ length vector.old }
-    requires vertex { v < length rooms.old }
-    requires bounds { HasBounds vector.old heads.old rooms.old v e }
-    requires goal { at_arc vector.old e ≤ℤ goal }
+fn lift(charges: &mut Charges, e: u32, v: u32, goal: i128)
+    requires edge { e < length charges.old.vector.items }
+    requires full { length charges.old.heads.items ≡ length charges.old.vector.items }
+    requires vertex { v < length charges.old.rooms.items }
+    requires bounds { HasBounds charges.old.vector.items charges.old.heads.items charges.old.rooms.items v e }
+    requires goal { at_arc charges.old.vector.items e ≤ℤ goal }
     requires top { goal ≤ℤ pos (2 ^ 100) }
-    ensures lifted { IsLifted vector.old heads.old rooms.old v e goal vector.new heads.new rooms.new }
+    ensures lifted { IsLifted charges.old.vector.items charges.old.heads.items charges.old.rooms.items v e goal charges.new.vector.items charges.new.heads.items charges.new.rooms.items }
 {
+    let vector = charges.vector.as_mut_slice();
+    let heads = charges.heads.as_mut_slice();
+    let rooms = charges.rooms.as_mut_slice();
     let want = goal - vector[e as usize];
     let amount = rooms[v as usize].min(want);
     put(vector, heads, rooms, e, v, amount);
@@ -108,31 +102,40 @@ fn join(groups: &mut [u32], side: &[bool], hits: &mut [bool], to: u32)
     }
 }
 
+// Makes one group of all groups that `u` and the side of the workspace touch.
+fn unite(groups: &mut [u32], workspace: &mut Workspace, u: u32)
+    requires tables { HasTables (length groups.old) workspace.old }
+    requires vertex { u < length groups.old }
+    requires low { (v : ℕ) → v < length groups.old → label groups.old v < length groups.old }
+    ensures tables { HasTables (length groups.old) workspace.new }
+    ensures joined { IsJoined (slice_set workspace.old.side.items u true) groups.old (label groups.old u) groups.new }
+{
+    let side = workspace.side.as_mut_slice();
+    let hits = workspace.hits.as_mut_slice();
+    side[u as usize] = true;
+    let to = groups[u as usize];
+    join(groups, side, hits, to);
+}
+
 // Raises edge `e` towards `goal`, as far as the vector stays sparse. Where it does not get there, its ends come into one group.
 fn raise_to(
     frame: &Frame,
     limit: i128,
-    vector: &mut [i128],
-    heads: &mut [i128],
-    rooms: &mut [i128],
+    charges: &mut Charges,
     groups: &mut [u32],
-    side: &mut [bool],
-    hits: &mut [bool],
-    queue: &mut [u32],
-    via: &mut [u32],
-    rank: &mut [usize],
+    workspace: &mut Workspace,
     e: u32,
     goal: i128,
 )
-    requires forest { IsForest frame.now limit vector.old heads.old rooms.old groups.old }
-    requires places { HasTables frame.now.nodes side.old queue.old via.old rank.old }
-    requires hits { length hits.old ≡ frame.now.nodes }
+    requires forest { IsForest frame.now limit charges.old.vector.items charges.old.heads.items charges.old.rooms.items groups.old }
+    requires tables { HasTables frame.now.nodes workspace.old }
     requires apart { HasApartEnds frame.now.ends }
     requires edge { e < length frame.now.ends }
-    requires goal { at_arc vector.old e ≤ℤ goal }
+    requires goal { at_arc charges.old.vector.items e ≤ℤ goal }
     requires top { goal ≤ℤ pos (2 ^ 100) }
-    ensures forest { IsForest frame.now limit vector.new heads.new rooms.new groups.new }
-    ensures raised { IsRaised frame.now vector.old groups.old vector.new groups.new e goal }
+    ensures forest { IsForest frame.now limit charges.new.vector.items charges.new.heads.items charges.new.rooms.items groups.new }
+    ensures tables { HasTables frame.now.nodes workspace.new }
+    ensures raised { IsRaised frame.now charges.old.vector.items groups.old charges.new.vector.items groups.new e goal }
 {
     // Gives the proof that the frame is a graph.
     let _ = frame.nodes();
@@ -141,39 +144,28 @@ fn raise_to(
     if groups[u as usize] == groups[v as usize] {
         return;
     }
-    bare(
-        frame, limit, vector, heads, rooms, side, queue, via, rank, u,
-    );
-    let want = goal - vector[e as usize];
-    let full = gather(
-        frame, limit, vector, heads, rooms, v, u, want, side, queue, via, rank,
-    );
-    lift(vector, heads, rooms, e, v, goal);
+    bare(frame, limit, charges, workspace, u);
+    let now = charges.vector[e as usize];
+    let want = goal - now;
+    let full = gather(frame, limit, charges, v, u, want, workspace);
+    lift(charges, e, v, goal);
     if !full {
-        side[u as usize] = true;
-        let to = groups[u as usize];
-        join(groups, side, hits, to);
+        unite(groups, workspace, u);
     }
 }
 
 // Nothing on any edge, and each vertex a group by itself.
-fn start(
-    limit: i128,
-    vector: &mut [i128],
-    heads: &mut [i128],
-    rooms: &mut [i128],
-    groups: &mut [u32],
-)
+fn start(limit: i128, charges: &mut Charges, groups: &mut [u32])
     requires few { length groups.old ≤ 8192 }
-    ensures vector { vector.new ≡ replicate (length vector.old) (pos 0) }
-    ensures heads { heads.new ≡ replicate (length heads.old) (pos 0) }
-    ensures rooms { rooms.new ≡ replicate (length rooms.old) limit }
+    ensures vector { charges.new.vector.items ≡ replicate (length charges.old.vector.items) (pos 0) }
+    ensures heads { charges.new.heads.items ≡ replicate (length charges.old.heads.items) (pos 0) }
+    ensures rooms { charges.new.rooms.items ≡ replicate (length charges.old.rooms.items) limit }
     ensures groups { length groups.new ≡ length groups.old }
     ensures own { (v : ℕ) → v < length groups.old → label groups.new v ≡ v }
 {
-    vector.fill(0);
-    heads.fill(0);
-    rooms.fill(limit);
+    charges.vector.fill(0);
+    charges.heads.fill(0);
+    charges.rooms.fill(limit);
     'own: for v in 0..groups.len() {
         groups[v] = v as u32;
     }
@@ -184,38 +176,30 @@ pub(crate) fn fill(
     frame: &Frame,
     limit: i128,
     goals: &[i128],
-    vector: &mut [i128],
-    heads: &mut [i128],
-    rooms: &mut [i128],
+    charges: &mut Charges,
     groups: &mut [u32],
-    side: &mut [bool],
-    hits: &mut [bool],
-    queue: &mut [u32],
-    via: &mut [u32],
-    rank: &mut [usize],
+    workspace: &mut Workspace,
 )
     requires low { pos 0 ≤ℤ limit }
     requires high { limit ≤ℤ pos (2 ^ 80) }
     requires goals { IsGoals frame.now goals.now }
     requires apart { HasApartEnds frame.now.ends }
-    requires vector { length vector.old ≡ length frame.now.ends }
-    requires heads { length heads.old ≡ length frame.now.ends }
-    requires rooms { length rooms.old ≡ frame.now.nodes }
+    requires vector { length charges.old.vector.items ≡ length frame.now.ends }
+    requires heads { length charges.old.heads.items ≡ length frame.now.ends }
+    requires rooms { length charges.old.rooms.items ≡ frame.now.nodes }
     requires groups { length groups.old ≡ frame.now.nodes }
-    requires places { HasTables frame.now.nodes side.old queue.old via.old rank.old }
-    requires hits { length hits.old ≡ frame.now.nodes }
-    ensures forest { IsForest frame.now limit vector.new heads.new rooms.new groups.new }
-    ensures within { AreWithinGoals frame.now goals.now vector.new }
-    ensures crossing { CrossingAreFull frame.now goals.now vector.new groups.new }
+    requires tables { HasTables frame.now.nodes workspace.old }
+    ensures forest { IsForest frame.now limit charges.new.vector.items charges.new.heads.items charges.new.rooms.items groups.new }
+    ensures tables { HasTables frame.now.nodes workspace.new }
+    ensures within { AreWithinGoals frame.now goals.now charges.new.vector.items }
+    ensures crossing { CrossingAreFull frame.now goals.now charges.new.vector.items groups.new }
 {
     let nodes = frame.nodes();
-    start(limit, vector, heads, rooms, groups);
+    start(limit, charges, groups);
     'rows: for u in 0..nodes {
         'row: for e in frame.outs(u) {
             let goal = goals[*e as usize];
-            raise_to(
-                frame, limit, vector, heads, rooms, groups, side, hits, queue, via, rank, *e, goal,
-            );
+            raise_to(frame, limit, charges, groups, workspace, *e, goal);
         }
     }
 }
@@ -224,29 +208,27 @@ pub(crate) fn fill(
 pub(crate) fn orient(
     frame: &Frame,
     limit: i128,
-    vector: &[i128],
-    heads: &mut [i128],
-    rooms: &mut [i128],
-    side: &mut [bool],
-    queue: &mut [u32],
-    via: &mut [u32],
-    rank: &mut [usize],
+    charges: &mut Charges,
+    workspace: &mut Workspace,
     root: u32,
     shares: &mut [i128],
 )
-    requires held { IsHeld frame.now limit vector.now heads.old rooms.old }
-    requires sparse { IsSparse frame.now limit vector.now }
-    requires places { HasTables frame.now.nodes side.old queue.old via.old rank.old }
+    requires held { IsHeld frame.now limit charges.old.vector.items charges.old.heads.items charges.old.rooms.items }
+    requires sparse { IsSparse frame.now limit charges.old.vector.items }
+    requires tables { HasTables frame.now.nodes workspace.old }
     requires root { root < frame.now.nodes }
     requires shares { length shares.old ≡ length frame.now.ends }
-    ensures held { IsHeld frame.now limit vector.now heads.new rooms.new }
-    ensures split { IsSplit frame.now limit vector.now shares.new root }
+    ensures vector { charges.new.vector.items ≡ charges.old.vector.items }
+    ensures held { IsHeld frame.now limit charges.new.vector.items charges.new.heads.items charges.new.rooms.items }
+    ensures tables { HasTables frame.now.nodes workspace.new }
+    ensures split { IsSplit frame.now limit charges.new.vector.items shares.new root }
 {
     // Gives the proof that the frame is a graph.
     let _ = frame.nodes();
-    bare(
-        frame, limit, vector, heads, rooms, side, queue, via, rank, root,
-    );
+    bare(frame, limit, charges, workspace, root);
+    let vector = charges.vector.as_slice();
+    let heads = charges.heads.as_slice();
+    let rooms = charges.rooms.as_slice();
     share_out(frame, limit, vector, heads, rooms, shares);
 }
 
@@ -275,30 +257,23 @@ fn share_out(
 pub(crate) fn raise(
     frame: &Frame,
     limit: i128,
-    vector: &mut [i128],
-    heads: &mut [i128],
-    rooms: &mut [i128],
+    charges: &mut Charges,
     groups: &mut [u32],
-    side: &mut [bool],
-    hits: &mut [bool],
-    queue: &mut [u32],
-    via: &mut [u32],
-    rank: &mut [usize],
+    workspace: &mut Workspace,
     e: u32,
 )
-    requires forest { IsForest frame.now limit vector.old heads.old rooms.old groups.old }
-    requires places { HasTables frame.now.nodes side.old queue.old via.old rank.old }
-    requires hits { length hits.old ≡ frame.now.nodes }
+    requires forest { IsForest frame.now limit charges.old.vector.items charges.old.heads.items charges.old.rooms.items groups.old }
+    requires tables { HasTables frame.now.nodes workspace.old }
     requires apart { HasApartEnds frame.now.ends }
     requires edge { e < length frame.now.ends }
-    ensures forest { IsForest frame.now limit vector.new heads.new rooms.new groups.new }
-    ensures raised { IsRaised frame.now vector.old groups.old vector.new groups.new e (at_arc vector.old e +ℤ (limit +ℤ pos 1)) }
+    ensures forest { IsForest frame.now limit charges.new.vector.items charges.new.heads.items charges.new.rooms.items groups.new }
+    ensures tables { HasTables frame.now.nodes workspace.new }
+    ensures raised { IsRaised frame.now charges.old.vector.items groups.old charges.new.vector.items groups.new e (at_arc charges.old.vector.items e +ℤ (limit +ℤ pos 1)) }
     ensures joined { label groups.new (tail_of frame.now.ends e) ≡ label groups.new (head_of frame.now.ends e) }
 {
     // Gives the proof that the frame is a graph.
     let _ = frame.nodes();
-    let goal = vector[e as usize] + (limit + 1);
-    raise_to(
-        frame, limit, vector, heads, rooms, groups, side, hits, queue, via, rank, e, goal,
-    );
+    let now = charges.vector[e as usize];
+    let goal = now + (limit + 1);
+    raise_to(frame, limit, charges, groups, workspace, e, goal);
 }

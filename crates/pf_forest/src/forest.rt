@@ -5,12 +5,14 @@ ghost use Rattle.pf_model.specs.Fraction.{Fraction};
 ghost use Rattle.pf_graph.specs.WeightedGraph.{digraph_of};
 ghost use Rattle.pf_graph.specs.Labels.{label, parts, IsPartition, Refines};
 ghost use Rattle.pf_graph.specs.Limits.{IsWithinLimits};
-ghost use Rattle.pf_forest.specs.Held.{tail_of, head_of};
-ghost use Rattle.pf_forest.specs.Forest.{no_level, IsSplit, IsFilled, IsKept, AddsSplits};
-ghost use Rattle.pf_forest.specs.Filling.{IsStanding, IsStandingAt, HasLists, HasTables, AreGoalsOf, IsRaised};
+ghost use Rattle.pf_forest.specs.Held.{IsHeld, HasTables, tail_of, head_of};
+ghost use Rattle.pf_forest.specs.Forest.{no_level, IsSparse, IsSplit, IsFilled, IsKept, AddsSplits};
+ghost use Rattle.pf_forest.specs.Filling.{IsStanding, IsStandingAt, HasLists, AreGoalsOf, IsRaised};
 
+use crate::charges::Charges;
 use crate::fill::{fill, orient, raise};
 use crate::meets::times;
+use crate::workspace::Workspace;
 use pf_frame::{FlowTable, NoMemory, Numbers};
 use pf_graph::{Graph, Partition};
 use pf_rat::Rat;
@@ -28,16 +30,10 @@ pub struct Forest<'g> {
     filled: bool,
     level: Rat,
     goals: Vec<i128>,
-    vector: Vec<i128>,
-    heads: Vec<i128>,
-    rooms: Vec<i128>,
+    charges: Charges,
     groups: Vec<u32>,
     partition: Partition,
-    side: Vec<bool>,
-    hits: Vec<bool>,
-    queue: Vec<u32>,
-    via: Vec<u32>,
-    rank: Vec<usize>,
+    workspace: Workspace,
 }
 
 impl<'g> Model for Forest<'g> {
@@ -46,9 +42,9 @@ impl<'g> Model for Forest<'g> {
 
     ghost Value = { ForestState };
 
-    ghost view = { λ f. record { graph = f.graph.now; level = level_of f.filled f.level; vector = f.vector.items; labels = f.partition } };
+    ghost view = { λ f. record { graph = f.graph.now; level = level_of f.filled f.level; vector = f.charges.vector.items; labels = f.partition } };
 
-    ghost invariant = { λ f. IsWhole f.graph.now f.filled f.level f.goals.items f.vector.items f.heads.items f.rooms.items f.groups.items f.partition f.side.items f.hits.items f.queue.items f.via.items f.rank.items };
+    ghost invariant = { λ f. IsWhole f.graph.now f.filled f.level f.goals.items f.charges.vector.items f.charges.heads.items f.charges.rooms.items f.groups.items f.partition f.workspace };
 }
 
 // The goal of each edge: its weight, in units of `1/q`.
@@ -82,103 +78,76 @@ fn fill_at(
     graph: &Graph,
     level: &Rat,
     goals: &mut [i128],
-    vector: &mut [i128],
-    heads: &mut [i128],
-    rooms: &mut [i128],
+    charges: &mut Charges,
     groups: &mut [u32],
     partition: &mut Partition,
-    side: &mut [bool],
-    hits: &mut [bool],
-    queue: &mut [u32],
-    via: &mut [u32],
-    rank: &mut [usize],
+    workspace: &mut Workspace,
 )
     requires low { pos 0 ≤ℤ level.now.p }
-    requires lists { HasLists graph.now goals.old vector.old heads.old rooms.old groups.old partition.old }
-    requires tables { HasTables graph.now.nodes side.old queue.old via.old rank.old }
-    requires hits { length hits.old ≡ graph.now.nodes }
-    ensures standing { IsStanding graph.now level.now.p vector.new heads.new rooms.new groups.new partition.new }
-    ensures at_level { IsStandingAt graph.now level.now goals.new vector.new groups.new }
-    ensures lists { HasLists graph.now goals.new vector.new heads.new rooms.new groups.new partition.new }
-    ensures tables { HasTables graph.now.nodes side.new queue.new via.new rank.new }
-    ensures hits { length hits.new ≡ graph.now.nodes }
-    ensures filled { IsFilled graph.now level.now vector.new partition.new }
+    requires lists { HasLists graph.now goals.old charges.old.vector.items charges.old.heads.items charges.old.rooms.items groups.old partition.old }
+    requires tables { HasTables graph.now.nodes workspace.old }
+    ensures standing { IsStanding graph.now level.now.p charges.new.vector.items charges.new.heads.items charges.new.rooms.items groups.new partition.new }
+    ensures at_level { IsStandingAt graph.now level.now goals.new charges.new.vector.items groups.new }
+    ensures lists { HasLists graph.now goals.new charges.new.vector.items charges.new.heads.items charges.new.rooms.items groups.new partition.new }
+    ensures tables { HasTables graph.now.nodes workspace.new }
+    ensures filled { IsFilled graph.now level.now charges.new.vector.items partition.new }
 {
     let frame = graph.frame();
     let limit = level.p();
     let q = level.q();
     write_goals(graph, q, goals);
-    fill(
-        frame, limit, goals, vector, heads, rooms, groups, side, hits, queue, via, rank,
-    );
+    fill(frame, limit, goals, charges, groups, workspace);
     partition.regroup(groups);
 }
 
-// Makes a split for the root.
+// Makes a split for the root. The groups and their partition do not change.
 fn orient_at(
     graph: &Graph,
     level: &Rat,
-    vector: &[i128],
-    heads: &mut [i128],
-    rooms: &mut [i128],
-    groups: &[u32],
-    partition: &Partition,
-    side: &mut [bool],
-    queue: &mut [u32],
-    via: &mut [u32],
-    rank: &mut [usize],
+    charges: &mut Charges,
+    workspace: &mut Workspace,
     root: u32,
     shares: &mut [i128],
 )
-    requires standing { IsStanding graph.now level.now.p vector.now heads.old rooms.old groups.now partition.now }
-    requires tables { HasTables graph.now.nodes side.old queue.old via.old rank.old }
+    requires held { IsHeld (digraph_of graph.now) level.now.p charges.old.vector.items charges.old.heads.items charges.old.rooms.items }
+    requires sparse { IsSparse (digraph_of graph.now) level.now.p charges.old.vector.items }
+    requires tables { HasTables graph.now.nodes workspace.old }
     requires root { root < graph.now.nodes }
     requires shares { length shares.old ≡ length graph.now.ends }
-    ensures standing { IsStanding graph.now level.now.p vector.now heads.new rooms.new groups.now partition.now }
-    ensures tables { HasTables graph.now.nodes side.new queue.new via.new rank.new }
-    ensures split { IsSplit (digraph_of graph.now) level.now.p vector.now shares.new root }
+    ensures vector { charges.new.vector.items ≡ charges.old.vector.items }
+    ensures held { IsHeld (digraph_of graph.now) level.now.p charges.old.vector.items charges.new.heads.items charges.new.rooms.items }
+    ensures tables { HasTables graph.now.nodes workspace.new }
+    ensures split { IsSplit (digraph_of graph.now) level.now.p charges.old.vector.items shares.new root }
 {
     let frame = graph.frame();
     let limit = level.p();
-    orient(
-        frame, limit, vector, heads, rooms, side, queue, via, rank, root, shares,
-    );
+    orient(frame, limit, charges, workspace, root, shares);
 }
 
 // Raises one edge as far as can be, and tells the partition.
 fn raise_at(
     graph: &Graph,
     level: &Rat,
-    vector: &mut [i128],
-    heads: &mut [i128],
-    rooms: &mut [i128],
+    charges: &mut Charges,
     groups: &mut [u32],
     partition: &mut Partition,
-    side: &mut [bool],
-    hits: &mut [bool],
-    queue: &mut [u32],
-    via: &mut [u32],
-    rank: &mut [usize],
+    workspace: &mut Workspace,
     edge: u32,
 )
-    requires standing { IsStanding graph.now level.now.p vector.old heads.old rooms.old groups.old partition.old }
-    requires tables { HasTables graph.now.nodes side.old queue.old via.old rank.old }
-    requires hits { length hits.old ≡ graph.now.nodes }
+    requires standing { IsStanding graph.now level.now.p charges.old.vector.items charges.old.heads.items charges.old.rooms.items groups.old partition.old }
+    requires tables { HasTables graph.now.nodes workspace.old }
     requires edge { edge < length graph.now.ends }
     ensures limits { IsWithinLimits graph.now }
-    ensures standing { IsStanding graph.now level.now.p vector.new heads.new rooms.new groups.new partition.new }
-    ensures tables { HasTables graph.now.nodes side.new queue.new via.new rank.new }
-    ensures hits { length hits.new ≡ graph.now.nodes }
-    ensures raised { IsRaised (digraph_of graph.now) vector.old groups.old vector.new groups.new edge (at_arc vector.old edge +ℤ (level.now.p +ℤ pos 1)) }
+    ensures standing { IsStanding graph.now level.now.p charges.new.vector.items charges.new.heads.items charges.new.rooms.items groups.new partition.new }
+    ensures tables { HasTables graph.now.nodes workspace.new }
+    ensures raised { IsRaised (digraph_of graph.now) charges.old.vector.items groups.old charges.new.vector.items groups.new edge (at_arc charges.old.vector.items edge +ℤ (level.now.p +ℤ pos 1)) }
     ensures met { label groups.new (tail_of graph.now.ends edge) ≡ label groups.new (head_of graph.now.ends edge) }
     ensures joined { label partition.new (tail_of graph.now.ends edge) ≡ label partition.new (head_of graph.now.ends edge) }
     ensures coarser { Refines graph.now.nodes partition.old partition.new }
 {
     let frame = graph.frame();
     let limit = level.p();
-    raise(
-        frame, limit, vector, heads, rooms, groups, side, hits, queue, via, rank, edge,
-    );
+    raise(frame, limit, charges, groups, workspace, edge);
     partition.regroup(groups);
 }
 
@@ -193,34 +162,22 @@ impl<'g> Forest<'g> {
         ensures single { IfOk result (λ forest. parts forest.labels ≡ graph.now.nodes) }
     {
         let frame = graph.frame();
-        let nodes = frame.nodes() as usize;
-        let edges = frame.arcs() as usize;
-        let goals = vec![in alloc; 0i128; edges]?;
-        let vector = vec![in alloc; 0i128; edges]?;
-        let heads = vec![in alloc; 0i128; edges]?;
-        let rooms = vec![in alloc; 0i128; nodes]?;
-        let groups = own_groups(alloc, frame.nodes())?;
+        let nodes = frame.nodes();
+        let edges = frame.arcs();
+        let goals = vec![in alloc; 0i128; edges as usize]?;
+        let charges = Charges::make(alloc, nodes, edges)?;
+        let groups = own_groups(alloc, nodes)?;
         let partition = Partition::of(alloc, &groups)?;
-        let side = vec![in alloc; false; nodes]?;
-        let hits = vec![in alloc; false; nodes]?;
-        let queue = vec![in alloc; 0u32; nodes]?;
-        let via = vec![in alloc; 0u32; nodes]?;
-        let rank = vec![in alloc; 0usize; nodes]?;
+        let workspace = Workspace::make(alloc, nodes)?;
         Ok(Forest {
             graph,
             filled: false,
             level: Rat::new(0, 1),
             goals,
-            vector,
-            heads,
-            rooms,
+            charges,
             groups,
             partition,
-            side,
-            hits,
-            queue,
-            via,
-            rank,
+            workspace,
         })
     }
 
@@ -237,16 +194,10 @@ impl<'g> Forest<'g> {
             self.graph,
             level,
             &mut self.goals,
-            &mut self.vector,
-            &mut self.heads,
-            &mut self.rooms,
+            &mut self.charges,
             &mut self.groups,
             &mut self.partition,
-            &mut self.side,
-            &mut self.hits,
-            &mut self.queue,
-            &mut self.via,
-            &mut self.rank,
+            &mut self.workspace,
         );
         self.level = *level;
         self.filled = true;
@@ -268,7 +219,7 @@ impl<'g> Forest<'g> {
         ensures partition { IsPartition self.now.graph.nodes self.now.labels }
     {
         let _ = self.graph.frame();
-        self.vector.as_slice()
+        self.charges.vector.as_slice()
     }
 
     /// The partition: its labels are indexed by vertices.
@@ -291,15 +242,8 @@ impl<'g> Forest<'g> {
         orient_at(
             self.graph,
             &self.level,
-            &self.vector,
-            &mut self.heads,
-            &mut self.rooms,
-            &self.groups,
-            &self.partition,
-            &mut self.side,
-            &mut self.queue,
-            &mut self.via,
-            &mut self.rank,
+            &mut self.charges,
+            &mut self.workspace,
             root,
             shares,
         );
@@ -321,16 +265,10 @@ impl<'g> Forest<'g> {
         raise_at(
             self.graph,
             &self.level,
-            &mut self.vector,
-            &mut self.heads,
-            &mut self.rooms,
+            &mut self.charges,
             &mut self.groups,
             &mut self.partition,
-            &mut self.side,
-            &mut self.hits,
-            &mut self.queue,
-            &mut self.via,
-            &mut self.rank,
+            &mut self.workspace,
             edge,
         );
     }

@@ -4,11 +4,13 @@
 //! memory.
 #![tactic(auto)]
 
+mod charges;
 mod fill;
 mod forest;
 mod gather;
 pub mod laws;
 mod meets;
+mod workspace;
 
 pub use forest::Forest;
 pub use meets::{are_splits, has_total, is_in_range};

@@ -17,11 +17,10 @@ rows-init c =
     let heads = c.start.ensures.heads ∙ ap (λ n. replicate n (pos 0)) c.requires.heads in
     let rooms = c.start.ensures.rooms ∙ ap (λ n. replicate n (to_z w128 (of_z w128 c.args.limit))) c.requires.rooms in
     record {
-      forest = forest_starts c.args.frame.now (to_z w128 (of_z w128 c.args.limit)) c.start.new.vector c.start.new.heads c.start.new.rooms c.start.new.groups low high
+      forest = forest_starts c.args.frame.now (to_z w128 (of_z w128 c.args.limit)) c.start.new.charges.vector.items c.start.new.charges.heads.items c.start.new.charges.rooms.items c.start.new.groups low high
           vector heads rooms (c.start.ensures.groups ∙ c.requires.groups) (λ v h. c.start.ensures.own v (omega (arith, h, c.requires.groups)));
-      filling = filling_starts c.args.frame.now c.args.goals.now c.start.new.vector c.start.new.groups c.requires.goals vector;
-      places = c.requires.places;
-      hits = c.requires.hits;
+      filling = filling_starts c.args.frame.now c.args.goals.now c.start.new.charges.vector.items c.start.new.groups c.requires.goals vector;
+      tables = c.requires.tables;
     }
 
 pub bounds-goals-e : goal.bounds-goals-e
@@ -50,12 +49,11 @@ row-preserved c =
     ≡ at_arc c.args.goals.now (get_or c.outs-e-items.result.now c.row.e-index 0) = omega (arith, ints, low, high) in
     record {
       forest = c.raise_to.ensures.forest;
-      filling = filling_goes_on c.args.frame.now c.args.goals.now c.row.vector c.raise_to.new.vector c.row.groups c.raise_to.new.groups
+      filling = filling_goes_on c.args.frame.now c.args.goals.now c.row.charges.vector.items c.raise_to.new.charges.vector.items c.row.groups c.raise_to.new.groups
           (get_or c.outs-e-items.result.now c.row.e-index 0) _ c.rows.u c.nodes-nodes.ensures.graph c.raise_to.ensures.raised same c.row.invariant.filling;
-      places = record { side_full = omega arith; queue_full = omega arith; via_full = omega arith; rank_full = omega arith };
-      hits = omega arith;
+      tables = c.raise_to.ensures.tables;
       items = c.row.invariant.items;
-      row = row_goes_on c.args.frame.now c.args.goals.now c.row.vector c.raise_to.new.vector c.row.groups c.raise_to.new.groups c.outs-e-items.result.now c.row.e-index _
+      row = row_goes_on c.args.frame.now c.args.goals.now c.row.charges.vector.items c.raise_to.new.charges.vector.items c.row.groups c.raise_to.new.groups c.outs-e-items.result.now c.row.e-index _
           c.nodes-nodes.ensures.graph (λ k h. (out_item c.args.frame.now _ k _ c.row.invariant.items h).in_range) here c.raise_to.ensures.raised same c.row.invariant.row;
     }
 
@@ -64,10 +62,9 @@ rows-preserved c =
     let past : length c.outs-e-items.result.now ≤ c.row.e-index = omega arith in
     record {
       forest = c.row.invariant.forest;
-      filling = row_ends c.args.frame.now c.args.goals.now c.row.vector c.row.groups c.outs-e-items.result.now c.row.e-index c.rows.u c.row.invariant.filling
+      filling = row_ends c.args.frame.now c.args.goals.now c.row.charges.vector.items c.row.groups c.outs-e-items.result.now c.row.e-index c.rows.u c.row.invariant.filling
           c.row.invariant.items past c.row.invariant.row;
-      places = c.row.invariant.places;
-      hits = c.row.invariant.hits;
+      tables = c.row.invariant.tables;
     }
 
 pub returns-clause-within : goal.returns-clause-within
@@ -76,4 +73,4 @@ returns-clause-within c = record { within = c.rows.invariant.filling.within }
 pub returns-clause-crossing : goal.returns-clause-crossing
 returns-clause-crossing c =
     let past : c.args.frame.now.nodes ≤ c.rows.u = omega arith in
-    filling_ends c.args.frame.now c.args.goals.now c.rows.vector c.rows.groups c.rows.u c.nodes-nodes.ensures.graph past c.rows.invariant.filling
+    filling_ends c.args.frame.now c.args.goals.now c.rows.charges.vector.items c.rows.groups c.rows.u c.nodes-nodes.ensures.graph past c.rows.invariant.filling

@@ -45,9 +45,9 @@ returns-clause-filled c =
     c.fill.ensures.crossing in
     let v' = c.p-limit.ensures.value in
     let same' : to_z w128 (of_z w128 c.p-limit.result) ≡ c.args.level.now.p = omega (arith, ints, v', b.p_low, b.p_high) in
-    let standing : IsStanding c.args.graph.now c.args.level.now.p c.fill.new.vector c.fill.new.heads c.fill.new.rooms c.fill.new.groups c.regroup.new.self = record {
+    let standing : IsStanding c.args.graph.now c.args.level.now.p c.fill.new.charges.vector.items c.fill.new.charges.heads.items c.fill.new.charges.rooms.items c.fill.new.groups c.regroup.new.self = record {
       forest = forest_here _ _ _ _ _ _ _ _ c.frame-frame.ensures.frame same' c.fill.ensures.forest;
       labels_are = c.regroup.ensures;
     } in
-    let P : Digraph → Type 0 = λ h. AreWithinGoals h c.write_goals.new.goals c.fill.new.vector in
+    let P : Digraph → Type 0 = λ h. AreWithinGoals h c.write_goals.new.goals c.fill.new.charges.vector.items in
     filled_of c.args.graph.now c.args.level.now _ _ _ _ _ _ c.frame-frame.ensures.limits.graph standing at_level (subst P c.frame-frame.ensures.frame c.fill.ensures.within)

@@ -4,7 +4,7 @@ use Rattle.pf_model.specs.Digraph.{Digraph}
 use Rattle.pf_frame.specs.Numbers.{IsBounded}
 use Rattle.pf_forest.proofs.Bounds.{range_bounded}
 use Rattle.pf_forest.proofs.Giving.{splits_more}
-use Rattle.pf_forest.proofs.Standing.{back}
+use Rattle.pf_forest.proofs.Lent.{back}
 use Rattle.pf_forest.proofs.meets.are_splits.Goals as goal
 use mir.Syntax.{w128}
 

@@ -17,61 +17,38 @@ overflow_sub-rest c =
     let top = c.requires.vector.high c.edges.i (omega arith) in
     omega (arith, ints, least, most, top)
 
-pub add-requires-clause-low : goal.add-requires-clause-low
-add-requires-clause-low c = let h = c.edges.invariant.low c.tail.result c.tail.ensures.node in omega (arith, ints, h, c.arcs-i-end.ensures.few)
-
-pub add-requires-clause-high : goal.add-requires-clause-high
-add-requires-clause-high c = let h = c.edges.invariant.high c.tail.result c.tail.ensures.node in omega (arith, ints, h, c.arcs-i-end.ensures.few)
-
-pub add-requires-clause-amount_low : goal.add-requires-clause-amount_low
-add-requires-clause-amount_low c =
+pub add-requires : goal.add-requires
+add-requires c =
     let least = c.requires.within.low c.edges.i (omega (arith, c.requires.vector.full)) in
     let most = c.requires.within.high c.edges.i (omega (arith, c.requires.vector.full)) in
     let top = c.requires.vector.high c.edges.i (omega arith) in
-    omega (arith, ints, least, most, top)
+    let low = c.edges.invariant.low c.tail.result c.tail.ensures.node in
+    let high = c.edges.invariant.high c.tail.result c.tail.ensures.node in
+    record {
+      place = omega (arith, c.tail.ensures.node, c.edges.invariant.places);
+      low = omega (arith, ints, low, c.arcs-i-end.ensures.few);
+      high = omega (arith, ints, high, c.arcs-i-end.ensures.few);
+      amount_low = omega (arith, ints, least, most, top);
+      amount_high = omega (arith, ints, least, most, top);
+    }
 
-pub add-requires-clause-amount_high : goal.add-requires-clause-amount_high
-add-requires-clause-amount_high c =
-    let least = c.requires.within.low c.edges.i (omega (arith, c.requires.vector.full)) in
-    let most = c.requires.within.high c.edges.i (omega (arith, c.requires.vector.full)) in
-    let top = c.requires.vector.high c.edges.i (omega arith) in
-    omega (arith, ints, least, most, top)
-
-pub add-requires-in-edges-clause-low : goal.add-requires-in-edges-clause-low
-add-requires-in-edges-clause-low c =
+pub add-requires-in-edges : goal.add-requires-in-edges
+add-requires-in-edges c =
     let least = c.requires.within.low c.edges.i (omega (arith, c.requires.vector.full)) in
     let most = c.requires.within.high c.edges.i (omega (arith, c.requires.vector.full)) in
     let top = c.requires.vector.high c.edges.i (omega arith) in
     let e : to_z w128 (of_z w128 (at_arc c.args.shares.now c.edges.i)) ≡ at_arc c.args.shares.now c.edges.i = omega (arith, ints, least, most, top) in
     let places : c.tail.result < length c.edges.sums = omega (arith, c.tail.ensures.node, c.edges.invariant.places) in
-    (raised_within c.edges.sums c.add.new.sums c.tail.result c.head.result c.edges.i (at_arc c.args.shares.now c.edges.i)
+    let within = raised_within c.edges.sums c.add.new.sums c.tail.result c.head.result c.edges.i (at_arc c.args.shares.now c.edges.i)
     (c.add.ensures ∙ ap (λ x. set c.edges.sums c.tail.result (at_arc c.edges.sums c.tail.result +ℤ x)) e) places (omega (arith, c.arcs-i-end.ensures.few)) least
-    (omega (arith, ints, most, top)) (c.edges.invariant.low c.head.result c.head.ensures.node) (c.edges.invariant.high c.head.result c.head.ensures.node)).0
-
-pub add-requires-in-edges-clause-high : goal.add-requires-in-edges-clause-high
-add-requires-in-edges-clause-high c =
-    let least = c.requires.within.low c.edges.i (omega (arith, c.requires.vector.full)) in
-    let most = c.requires.within.high c.edges.i (omega (arith, c.requires.vector.full)) in
-    let top = c.requires.vector.high c.edges.i (omega arith) in
-    let e : to_z w128 (of_z w128 (at_arc c.args.shares.now c.edges.i)) ≡ at_arc c.args.shares.now c.edges.i = omega (arith, ints, least, most, top) in
-    let places : c.tail.result < length c.edges.sums = omega (arith, c.tail.ensures.node, c.edges.invariant.places) in
-    (raised_within c.edges.sums c.add.new.sums c.tail.result c.head.result c.edges.i (at_arc c.args.shares.now c.edges.i)
-    (c.add.ensures ∙ ap (λ x. set c.edges.sums c.tail.result (at_arc c.edges.sums c.tail.result +ℤ x)) e) places (omega (arith, c.arcs-i-end.ensures.few)) least
-    (omega (arith, ints, most, top)) (c.edges.invariant.low c.head.result c.head.ensures.node) (c.edges.invariant.high c.head.result c.head.ensures.node)).1
-
-pub add-requires-in-edges-clause-amount_low : goal.add-requires-in-edges-clause-amount_low
-add-requires-in-edges-clause-amount_low c =
-    let least = c.requires.within.low c.edges.i (omega (arith, c.requires.vector.full)) in
-    let most = c.requires.within.high c.edges.i (omega (arith, c.requires.vector.full)) in
-    let top = c.requires.vector.high c.edges.i (omega arith) in
-    omega (arith, ints, least, most, top)
-
-pub add-requires-in-edges-clause-amount_high : goal.add-requires-in-edges-clause-amount_high
-add-requires-in-edges-clause-amount_high c =
-    let least = c.requires.within.low c.edges.i (omega (arith, c.requires.vector.full)) in
-    let most = c.requires.within.high c.edges.i (omega (arith, c.requires.vector.full)) in
-    let top = c.requires.vector.high c.edges.i (omega arith) in
-    omega (arith, ints, least, most, top)
+    (omega (arith, ints, most, top)) (c.edges.invariant.low c.head.result c.head.ensures.node) (c.edges.invariant.high c.head.result c.head.ensures.node) in
+    record {
+      place = omega (arith, c.head.ensures.node, c.edges.invariant.places, c.add.auto.sums);
+      low = within.0;
+      high = within.1;
+      amount_low = omega (arith, ints, least, most, top);
+      amount_high = omega (arith, ints, least, most, top);
+    }
 
 pub edges-preserved : goal.edges-preserved
 edges-preserved c =

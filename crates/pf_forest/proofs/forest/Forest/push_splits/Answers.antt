@@ -5,7 +5,7 @@ use Rattle.pf_model.specs.Fraction.{Fraction}
 use Rattle.pf_graph.specs.WeightedGraph.{WeightedGraph, digraph_of}
 use Rattle.pf_forest.specs.Forest.{ForestState, IsSplit, AddsSplits}
 use Rattle.pf_forest.proofs.Giving.{adds_more}
-use Rattle.pf_forest.proofs.Standing.{back}
+use Rattle.pf_forest.proofs.Lent.{back}
 use Rattle.pf_forest.proofs.forest.Forest.push_splits.Goals as goal
 
 pub roots-preserved : goal.roots-preserved
