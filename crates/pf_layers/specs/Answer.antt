@@ -4,6 +4,8 @@ use Rattle.pf_model.specs.Fraction.{Fraction}
 use Rattle.pf_model.specs.Answer.{IsFractionShape, IsWithinSize}
 use Rattle.pf_graph.specs.WeightedGraph.{WeightedGraph}
 use Rattle.pf_closure.specs.Problem.{ClosureProblem}
+use Rattle.pf_layers.specs.declared.problem.LayerProblem.{LayerProblem}
+use Rattle.pf_layers.specs.declared.problem.LayerProblem.TheVariants.{Graph, Closure}
 use Rattle.pf_layers.specs.DenseLayers.{IsDenseLayers}
 use Rattle.pf_layers.specs.RatioLayers.{IsRatioLayers}
 
@@ -26,3 +28,8 @@ pub record IsDenseAnswer (g : WeightedGraph) (answer : LayersAnswer) : Type 0 wh
 pub record IsRatioAnswer (p : ClosureProblem) (answer : LayersAnswer) : Type 0 where
   pub shape : All IsFractionShape answer.levels
   pub right : IsRatioLayers p answer.levels answer.layers
+
+-- the answer is right for a problem of either kind
+abbrev pub IsLayersAnswer : LayerProblem → LayersAnswer → Type 0
+IsLayersAnswer (Graph g) answer = IsDenseAnswer g answer
+IsLayersAnswer (Closure p) answer = IsRatioAnswer p answer
