@@ -21,3 +21,5 @@ pub mod Examples
 pub mod LevelLines
 pub mod KindLemmas
 pub mod RightLemmas
+pub mod SameAnswers
+pub mod Shapes

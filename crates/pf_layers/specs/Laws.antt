@@ -5,16 +5,19 @@ use Rattle.pf_text.specs.declared.TextBad.TheVariants.{WrongKind}
 use Rattle.pf_text.specs.Lines.{Line}
 use Rattle.pf_text.specs.Kinds.{is_wrong_kind, problem_of_lines}
 use Rattle.pf_graph.specs.WeightedGraph.{WeightedGraph, IsWeightedGraph}
+use Rattle.pf_graph.specs.Limits.{IsWithinLimits}
 use Rattle.pf_graph.specs.declared.graph.Task.TheVariants.{Densest}
 use Rattle.pf_graph.specs.Text.{graph}
 use Rattle.pf_dense.specs.Densest.{HasPositiveCosts}
-use Rattle.pf_closure.specs.Problem.{ClosureProblem, IsClosureProblem}
+use Rattle.pf_closure.specs.Problem.{ClosureProblem, IsClosureProblem, IsBoundedProblem}
 use Rattle.pf_closure.specs.Text.{closure}
 use Rattle.pf_layers.specs.declared.problem.LayerProblem.TheVariants.{Graph, Closure}
 use Rattle.pf_layers.specs.Problem.{accepted_as, layer_problem_of_lines}
 use Rattle.pf_layers.specs.Layers.{level_at}
 use Rattle.pf_layers.specs.DenseLayers.{IsDenseLayers}
 use Rattle.pf_layers.specs.RatioLayers.{IsRatioLayers}
+use Rattle.pf_layers.specs.Answer.{LayersAnswer, IsLayersShape, IsDenseAnswer, IsRatioAnswer}
+use Rattle.pf_layers.specs.Text.{layers_text}
 
 -- the same layers, with equal levels
 pub record AreSameLayers (levels levels' : List Fraction) (layers layers' : List ℤ) : Type 0 where
@@ -42,6 +45,17 @@ OneDenseLevels = (g : WeightedGraph) (levels levels' : List Fraction) (layers la
 abbrev pub OneRatioLevels : Type 0
 OneRatioLevels = (p : ClosureProblem) (levels levels' : List Fraction) (layers layers' : List ℤ) → IsClosureProblem p →
     IsRatioLayers p levels layers → IsRatioLayers p levels' layers' → AreLowest levels → AreLowest levels' → levels ≡ levels'
+
+-- answers of the right shape for one problem, which has so many elements, are equal where their texts are
+abbrev pub LayersFromText : Type 0
+LayersFromText = (n : ℕ) (a b : LayersAnswer) → IsLayersShape n a → IsLayersShape n b → layers_text a ≡ layers_text b → a ≡ b
+
+-- right answers have the right shape
+abbrev pub DenseHasShape : Type 0
+DenseHasShape = (g : WeightedGraph) (answer : LayersAnswer) → IsWithinLimits g → IsDenseAnswer g answer → IsLayersShape g.nodes answer
+
+abbrev pub RatioHasShape : Type 0
+RatioHasShape = (p : ClosureProblem) (answer : LayersAnswer) → IsBoundedProblem p → IsRatioAnswer p answer → IsLayersShape (length p.costs) answer
 
 -- A text of which the header is not that of another kind than `closure` is read as one of that kind, and likewise for `graph`. The header
 -- of a third kind is a wrong one.

@@ -1,7 +1,7 @@
 // Layers, read off the whole least-cut function of a network.
 ghost use Rattle.std.specs.Prelude.{◌≡◌, ◌++◌, ◌∷◌, [], ◌⊎◌, ◌<◌, suc, pos, IfOk, length, replicate, All};
 ghost use Rattle.pf_model.specs.Answer.{IsFractionShape};
-ghost use Rattle.pf_layers.specs.Answer.{IsDenseAnswer, IsRatioAnswer};
+ghost use Rattle.pf_layers.specs.Answer.{IsDenseAnswer, IsRatioAnswer, IsLayersAnswer};
 ghost use Rattle.pf_layers.specs.Reading.{AreFalling, AreRising, IsEnded};
 ghost use Rattle.pf_layers.specs.Right.{IsRightLayers};
 ghost use Rattle.pf_layers.specs.Text.{layers_text};
@@ -112,7 +112,8 @@ pub fn ratio_layers(alloc: Global, items: &Items) -> Result<Layers, NoMemory>
 
 /// The layers of a problem of either kind. `NoMemory` is the only other answer.
 pub fn layers_of(alloc: Global, problem: &LayerProblem) -> Result<Layers, NoMemory>
-    ensures { IfOk result (λ answer. IsRightLayers problem.now (layers_text answer)) }
+    ensures answer { IfOk result (IsLayersAnswer problem.now) }
+    ensures text { IfOk result (λ answer. IsRightLayers problem.now (layers_text answer)) }
 {
     match problem {
         LayerProblem::Graph(graph) => dense_layers(alloc, graph),

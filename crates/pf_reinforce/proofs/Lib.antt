@@ -7,3 +7,5 @@ pub mod Thresholds
 pub mod Gains
 pub mod Ending
 pub mod Printed
+pub mod SameAnswers
+pub mod Shapes

@@ -1,6 +1,6 @@
 //! Laws of reinforcements.
 
-ghost use Rattle.pf_reinforce.specs.ReinforcementLaws.{CertificateIsLeast, BlockedIsNotReached};
+ghost use Rattle.pf_reinforce.specs.ReinforcementLaws.{CertificateIsLeast, BlockedIsNotReached, ReinforcementFromText, AnswerHasShape};
 ghost use Rattle.pf_reinforce.specs.Worked.{TriangleIsCertified, TwoPartsServe, CheapEdgeCrosses, OtherCost, DearEdge, ThresholdLeftOut, EdgeIsCertified, ZeroIsReached, ZeroIsNotBlocked, OnePartBlocksNot, TriangleText, EdgeText, PairsText};
 
 /// The certificate proves that the numbers reach the level, and that none do for less, in whatever unit they are written.
@@ -11,6 +11,13 @@ pub fn certificate_is_least()
 /// Where the components of a graph block a level, nothing that is added reaches it.
 pub fn blocked_is_not_reached()
     ensures { BlockedIsNotReached }
+{}
+
+/// The text of an answer of the right shape is the text of no other one, be it what is added or what blocks a level. Right answers have
+/// this shape: no edge gets more than `P` times the number of vertices less one.
+pub fn texts_determine_answers()
+    ensures reinforcement { ReinforcementFromText }
+    ensures shape { AnswerHasShape }
 {}
 
 /// Reinforcements worked by hand: certificates of a triangle with two prices, of one edge, and of two vertices without one at

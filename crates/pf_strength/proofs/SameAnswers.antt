@@ -72,11 +72,11 @@ same_labels (x ∷ a) (y ∷ b) sa sb e =
 
 -- ---- the lines of an answer
 
-abbrev split_fields : ℕ → List (List ℤ) → List (List (List ℕ))
+abbrev pub split_fields : ℕ → List (List ℤ) → List (List (List ℕ))
 split_fields r [] = []
 split_fields r (row ∷ rows) = (codes "r" ∷ decimal (r + 1) ∷ map signed_decimal row) ∷ split_fields (r + 1) rows
 
-abbrev end : List (List (List ℕ))
+abbrev pub end : List (List (List ℕ))
 end = (codes "end" ∷ []) ∷ []
 
 abbrev answer_lines : StrengthAnswer → List (List (List ℕ))
@@ -84,7 +84,7 @@ answer_lines answer =
     (codes "o" ∷ codes "strength" ∷ []) ∷ (codes "d" ∷ signed_decimal answer.level.p ∷ signed_decimal answer.level.q ∷ []) ∷ (codes "k" ∷ decimal (parts answer.parts) ∷ [])
     ∷ (codes "s" ∷ map decimal answer.parts) ∷ (codes "y" ∷ map signed_decimal answer.vector) ∷ (split_fields 0 answer.splits ++ end)
 
-splits_text_is : (r : ℕ) (rows : List (List ℤ)) → splits_text r rows ≡ lines_text (split_fields r rows)
+pub splits_text_is : (r : ℕ) (rows : List (List ℤ)) → splits_text r rows ≡ lines_text (split_fields r rows)
 splits_text_is r [] = refl
 splits_text_is r (row ∷ rows) = ap (λ (t : List ℕ). split_line r row ++ t) (splits_text_is (r + 1) rows)
 
@@ -107,7 +107,7 @@ pub labels_plain : (labels : List ℕ) → ArePlain (map decimal labels)
 labels_plain [] = tt
 labels_plain (x ∷ labels) = (decimal_plain x, labels_plain labels)
 
-split_fields_plain : (r : ℕ) (rows : List (List ℤ)) (tail : List (List (List ℕ))) → AllByRecursion ArePlain tail → AllByRecursion ArePlain (split_fields r rows ++ tail)
+pub split_fields_plain : (r : ℕ) (rows : List (List ℤ)) (tail : List (List (List ℕ))) → AllByRecursion ArePlain tail → AllByRecursion ArePlain (split_fields r rows ++ tail)
 split_fields_plain r [] tail plain = plain
 split_fields_plain r (row ∷ rows) tail plain =
     ((record { some = omega arith; all = refl }, (decimal_plain (r + 1), numbers_plain row)), split_fields_plain (r + 1) rows tail plain)
@@ -142,7 +142,7 @@ behind_word i lines = drop 1 (get_or lines i [])
 abbrev mark : List (List (List ℕ)) → ℕ
 mark lines = get_or (field_at 0 0 lines) 0 0
 
-same_splits : (g : WeightedGraph) (r : ℕ) (a b : List (List ℤ)) → AllByRecursion (IsSized (digraph_of g)) a → AllByRecursion (IsSized (digraph_of g)) b →
+pub same_splits : (g : WeightedGraph) (r : ℕ) (a b : List (List ℤ)) → AllByRecursion (IsSized (digraph_of g)) a → AllByRecursion (IsSized (digraph_of g)) b →
     split_fields r a ++ end ≡ split_fields r b ++ end → a ≡ b
 same_splits g r [] [] sa sb e = refl
 same_splits g r [] (y ∷ b) sa sb e = absurd (let byte = ap mark e in omega (arith, byte))
