@@ -1,20 +1,15 @@
 -- The texts of answers, one line at a time.
-use Rattle.std.proofs.Common.{◌≡◌, ℕ, ◌+◌, ◌<◌, List, [], ◌∷◌, ◌++◌, length, get_or, map, drop, add-one, ap, ◌∙◌}
+use Rattle.std.proofs.Common.{◌≡◌, ℕ, ◌+◌, ◌<◌, List, [], ◌∷◌, ◌++◌, length, get_or, drop, add-one, ap, ◌∙◌}
 use Rattle.std.specs.Prelude.{ℤ, Bool, codes}
-use Rattle.std.specs.Fmt.{decimal, signed_decimal}
+use Rattle.std.specs.Fmt.{decimal}
 use Rattle.std.proofs.Math.Seq.{drop-cons}
 use Rattle.pf_model.specs.Fraction.{Fraction}
 use Rattle.pf_model.specs.Network.{Network}
 use Rattle.pf_text.specs.Spelling.{line}
-use Rattle.pf_par.specs.Answers.{point_fields, cut_fields, segments_text, flows_text}
+use Rattle.pf_par.specs.Answers.{point_fields, cut_fields, segments_text}
 
 next : {X : Type 0} (xs : List X) (i : ℕ) (other : X) → i < length xs → drop i xs ≡ get_or xs i other ∷ drop (i + 1) xs
 next xs i other low = rw add-one (drop-cons xs i other low)
-
--- flow j and those after it
-pub flows_text_at : (j : ℕ) (flows : List (List ℤ)) → j < length flows
-    → flows_text j (drop j flows) ≡ line (codes "f" ∷ decimal j ∷ map signed_decimal (get_or flows j [])) ++ flows_text (j + 1) (drop (j + 1) flows)
-flows_text_at j flows low = ap (flows_text j) (next flows j [] low)
 
 -- segment i, numbered from 1, and those after it
 pub segments_text_at : (net : Network) (i : ℕ) (sides : List (List Bool)) (points : List Fraction) (flows : List (List ℤ)) (other : Fraction)

@@ -4,7 +4,7 @@ use Rattle.std.specs.Prelude.{ℤ, ◌+ℤ◌, ◌-ℤ◌, ◌≤ℤ◌, pos, co
 use Rattle.std.specs.Fmt.{decimal}
 use Rattle.std.specs.List.{AllByRecursion}
 use Rattle.std.proofs.lemmas.Int.{ints}
-use Rattle.std.proofs.lemmas.List.{append-nil, length-map}
+use Rattle.std.proofs.lemmas.List.{length-map}
 use Rattle.std.proofs.lemmas.List.Elements.{recursion_from_All, All-map, All-weaker}
 use Rattle.pf_model.specs.Fraction.{Fraction}
 use Rattle.pf_model.specs.Cut.{sum_where}
@@ -130,9 +130,6 @@ parts_of_curve net parts e =
     ∙ sym (curve_text_parts net (curve_of_parts parts))
 
 -- ---- what a text of a curve says of its parts
-
-pub nothing_behind : (net : Network) (text : List ℕ) (c : Curve) → text ≡ curve_text net c → text ≡ parts_text net (parts_of net c) ++ []
-nothing_behind net text c e = e ∙ curve_text_parts net c ∙ sym (append-nil (parts_text net (parts_of net c)))
 
 pub values_are : (net : Network) (parts : Parts) (c : Curve) → parts ≡ parts_of net c → values_of net parts.flows ≡ parts.outline.values
 values_are net parts c e = ap (λ (p : Parts). values_of net p.flows) e ∙ sym (ap (λ (p : Parts). p.outline.values) e)

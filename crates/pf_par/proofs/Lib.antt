@@ -11,5 +11,4 @@ pub mod LineLemmas
 pub mod OutlineLemmas
 pub mod CutBounds
 pub mod SegmentsTaken
-pub mod FlowLineLemmas
 pub mod CurveReadingLemmas

@@ -8,7 +8,8 @@ use Rattle.pf_model.specs.Network.{Network, IsNetworkCut}
 use Rattle.pf_model.specs.Answer.{IsFractionShape, IsWithinSize}
 use Rattle.pf_lines.specs.declared.taking.Valued.{Valued}
 use Rattle.pf_lines.specs.Taking.{IsValued}
-use Rattle.pf_lines.proofs.ItemsTaken.{Items, Stand, HasTaken, items_end}
+use Rattle.pf_lines.proofs.ItemsTaken.{Items}
+use Rattle.pf_lines.proofs.PartsTaken.{Parts, PartsStand, HasParts, parts_text}
 use Rattle.pf_par.specs.Outline.{IsOutlineShape, IsSegmentShape, point_line, points_outline, segment_text, segments_outline}
 use Rattle.pf_par.specs.declared.outline.Outline.{Outline}
 use Rattle.pf_par.specs.declared.outline.Segment.{Segment}
@@ -49,6 +50,17 @@ segment_items net = record {
   follows = λ j segment rest. tt;
 }
 
+-- a first point, and the segments after it
+abbrev pub outline_parts : Network → Parts Valued Segment Outline
+outline_parts net = record {
+  line = λ first. point_line 0 first;
+  IsFirst = IsValued;
+  items = segment_items net;
+  lists = λ first segments. behind_point first (lists_of segments);
+  add = λ segment o. with_segment segment o;
+  more = λ first segments segment. ap (λ (o : Outline). behind_point first o) (lists_more segments segment);
+}
+
 -- ---- the outline that stands there
 
 -- the segments that three lists make up
@@ -79,10 +91,7 @@ pub record IsSplit (net : Network) (count : ℕ) (old rest : List ℕ) (whole : 
   pub first : Valued
   pub segments : List Segment
   pub is : whole ≡ behind_point first (lists_of segments)
-  pub shape : IsValued first
-  pub full : length segments ≡ count
-  pub each : All (IsSegmentShape net) segments
-  pub text : old ≡ point_line 0 first ++ (segment_lines net 0 segments ++ rest)
+  pub stand : PartsStand (outline_parts net) count old first segments rest
 
 pub split_of : (net : Network) (count : ℕ) (old rest : List ℕ) (points : List Fraction) (cuts : List (List Bool)) (values : List ℤ) → IsOutlineShape net (outline_by points cuts values) → length cuts ≡ count
     → old ≡ points_outline net cuts points values ++ rest → IsSplit net count old rest (outline_by points cuts values)
@@ -98,58 +107,40 @@ split_of net count old rest (p ∷ points) cuts (v ∷ values) shape full e =
       first = first;
       segments = l.segments;
       is = is;
-      shape = record { at = shape.points 0 p (omega arith); value = shape.values 0 v (omega arith) };
-      full = sym (length-map l.segments (λ (s : Segment). s.side)) ∙ ap (λ (o : Outline). length o.cuts) (sym l.is) ∙ full;
-      each = l.each;
-      text = e ∙ ap (λ (o : Outline). points_outline net o.cuts o.points o.values ++ rest) is ∙ append_assoc (point_line 0 first) (segment_lines net 0 l.segments) rest;
+      stand = record {
+        shape = record { at = shape.points 0 p (omega arith); value = shape.values 0 v (omega arith) };
+        full = sym (length-map l.segments (λ (s : Segment). s.side)) ∙ ap (λ (o : Outline). length o.cuts) (sym l.is) ∙ full;
+        each = l.each;
+        behind = tt;
+        text = e ∙ ap (λ (o : Outline). points_outline net o.cuts o.points o.values ++ rest) is ∙ append_assoc (point_line 0 first) (segment_lines net 0 l.segments) rest;
+      };
     }
 
 -- ---- what was taken
 
--- the first point and so many segments were taken, and the text of any others that stood there begins with them
-pub record HasPoints (net : Network) (count : ℕ) (old now : List ℕ) (i : ℕ) (o : Outline) : Type 0 where
-  pub first : Valued
-  pub behind : List ℕ
-  pub segments : List Segment
-  pub is : o ≡ behind_point first (lists_of segments)
-  pub shape : IsValued first
-  pub front : old ≡ point_line 0 first ++ behind
-  pub only : (point : Valued) (rest : List ℕ) → IsValued point → old ≡ point_line 0 point ++ rest → (first ≡ point) × (behind ≡ rest)
-  pub taken : HasTaken (segment_items net) count behind now i segments
-
-module _ (net : Network) (count : ℕ) (old now : List ℕ) (i : ℕ) (o : Outline) (got : HasPoints net count old now i o) where
-  -- the segments of an outline whose text stands there stand after the first point
-  pub stands : (rest : List ℕ) (whole : Outline) (s : IsSplit net count old rest whole) → Stand (segment_items net) count got.behind s.segments rest
-  stands rest whole s = record { full = s.full; each = s.each; behind = tt; text = (got.only s.first (segment_lines net 0 s.segments ++ rest) s.shape s.text).1 }
-
-  pub ends : i ≡ count → (rest : List ℕ) (whole : Outline) → IsSplit net count old rest whole → (o ≡ whole) × (now ≡ rest)
-  ends all rest whole s =
-      let first = (got.only s.first (segment_lines net 0 s.segments ++ rest) s.shape s.text).0 in
-      let later = items_end (segment_items net) count got.behind now i got.segments got.taken all s.segments rest (stands rest whole s) in
-      (got.is ∙ ap (λ (p : Valued). behind_point p (lists_of got.segments)) first ∙ ap (λ (xs : List Segment). behind_point s.first (lists_of xs)) later.0 ∙ sym s.is, later.1)
-
+module _ (net : Network) (count : ℕ) (old now : List ℕ) (i : ℕ) (o : Outline) (taken : HasParts (outline_parts net) count old now i o) where
   pub text_taken : old ≡ points_outline net o.cuts o.points o.values ++ now
   text_taken =
-      let line = point_line 0 got.first in
-      got.front ∙ ap (λ (t : List ℕ). line ++ t) got.taken.taken ∙ sym (append_assoc line (segment_lines net 0 got.segments) now)
-      ∙ ap (λ (x : Outline). points_outline net x.cuts x.points x.values ++ now) (sym got.is)
+      parts_text (outline_parts net) count old now i o taken ∙ sym (append_assoc (point_line 0 taken.first) (segment_lines net 0 taken.got) now)
+      ∙ ap (λ (x : Outline). points_outline net x.cuts x.points x.values ++ now) (sym taken.is)
 
   pub shape_taken : 0 < i → IsOutlineShape net o × (length o.cuts ≡ i)
   shape_taken some =
-      let n = length-map got.segments (λ (s : Segment). s.side) ∙ got.taken.number in
-      let m = length-map got.segments (λ (s : Segment). s.point.at) ∙ got.taken.number in
-      let k = length-map got.segments (λ (s : Segment). s.point.value) ∙ got.taken.number in
-      let each = got.taken.each in
+      let segments = taken.got in
+      let n = length-map segments (λ (s : Segment). s.side) ∙ taken.taken.number in
+      let m = length-map segments (λ (s : Segment). s.point.at) ∙ taken.taken.number in
+      let k = length-map segments (λ (s : Segment). s.point.value) ∙ taken.taken.number in
+      let each = taken.taken.each in
       let P : Outline → Type 0 = λ x. IsOutlineShape net x × (length x.cuts ≡ i) in
-      let shape : IsOutlineShape net (behind_point got.first (lists_of got.segments)) = record {
+      let shape : IsOutlineShape net (behind_point taken.first (lists_of segments)) = record {
         some = omega (arith, n, some);
         count = omega (arith, n, m);
         value_count = omega (arith, m, k);
-        points = All-cons IsFractionShape _ _ got.shape.at (All-map IsFractionShape (λ (s : Segment). s.point.at) got.segments (λ j d low. (each j d low).point.at));
-        cuts = All-map (IsNetworkCut net) (λ (s : Segment). s.side) got.segments (λ j d low. (each j d low).cut);
-        values = All-cons (IsWithinSize (2 ^ 120)) _ _ got.shape.value (All-map (IsWithinSize (2 ^ 120)) (λ (s : Segment). s.point.value) got.segments (λ j d low. (each j d low).point.value));
+        points = All-cons IsFractionShape _ _ taken.shape.at (All-map IsFractionShape (λ (s : Segment). s.point.at) segments (λ j d low. (each j d low).point.at));
+        cuts = All-map (IsNetworkCut net) (λ (s : Segment). s.side) segments (λ j d low. (each j d low).cut);
+        values = All-cons (IsWithinSize (2 ^ 120)) _ _ taken.shape.value (All-map (IsWithinSize (2 ^ 120)) (λ (s : Segment). s.point.value) segments (λ j d low. (each j d low).point.value));
       } in
-      subst P (sym got.is) (shape, n)
+      subst P (sym taken.is) (shape, n)
 
 -- ---- there are at least as many bytes as cuts
 
@@ -164,5 +155,5 @@ pub points_bytes : (net : Network) (o : Outline) (rest : List ℕ) → IsOutline
 points_bytes net o rest shape =
     let s = split_of net (length o.cuts) (points_outline net o.cuts o.points o.values ++ rest) rest o.points o.cuts o.values shape refl refl in
     let lines = segment_lines net 0 s.segments in
-    let all = s.full in
-    omega (arith, ap length s.text, length-append (point_line 0 s.first) (lines ++ rest), length-append lines rest, segments_bytes net 0 s.segments, all)
+    let all = s.stand.full in
+    omega (arith, ap length s.stand.text, length-append (point_line 0 s.first) (lines ++ rest), length-append lines rest, segments_bytes net 0 s.segments, all)

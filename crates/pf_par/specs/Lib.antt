@@ -5,5 +5,4 @@ pub mod Laws
 pub mod Rules
 pub mod ParState
 pub mod Outline
-pub mod FlowLines
 pub mod CurveParts

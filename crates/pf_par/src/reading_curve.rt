@@ -1,5 +1,5 @@
 // Reading of the text of a curve.
-ghost use Rattle.std.specs.Prelude.{◌≡◌, ◌≢◌, ◌↔◌, ◌++◌, [], ℕ, List, length, All, IfOk, IsTrue, Err};
+ghost use Rattle.std.specs.Prelude.{◌≡◌, ◌≢◌, ◌↔◌, ◌++◌, ℕ, List, length, All, IfOk, IsTrue, Err};
 ghost use Rattle.pf_model.specs.Answer.{Curve, IsCurveShape, IsFlowShape};
 ghost use Rattle.pf_par.specs.Answers.{value_of, curve_text};
 ghost use Rattle.pf_par.specs.Outline.{values_of};
@@ -11,7 +11,7 @@ use crate::flow_lines::take_flows;
 use crate::outline::{Outline, take_outline};
 use pf_curve::Curve;
 use pf_frame::{FlowTable, value};
-use pf_lines::{AnswerBad, Exact, take_word};
+use pf_lines::{AnswerBad, Exact, take_end, take_word};
 use pf_net::Net;
 use std::alloc::Global;
 
@@ -59,13 +59,6 @@ fn values_agree(net: &Net, flows: &FlowTable, values: &[i128]) -> bool
     true
 }
 
-// Whether nothing is left.
-fn is_at_end(text: &Exact<'_>) -> bool
-    ensures { IsTrue result ↔ (text.now ≡ []) }
-{
-    text.rest().is_empty()
-}
-
 /// The curve of the right shape for the network whose text these bytes are: there is at most one. Numbers and words have
 /// one spelling there, and no line is passed over. `NotText` comes exactly where there is no such curve.
 pub fn read_curve(alloc: Global, net: &Net, text: &[u8]) -> Result<Curve, AnswerBad>
@@ -77,9 +70,7 @@ pub fn read_curve(alloc: Global, net: &Net, text: &[u8]) -> Result<Curve, Answer
     let _ = net.frame();
     let mut rest = Exact::new(text);
     let Parts { outline, flows } = take_parts(alloc, net, &mut rest)?;
-    if !is_at_end(&rest) {
-        return Err(AnswerBad::NotText);
-    }
+    take_end(&rest)?;
     if !values_agree(net, &flows, outline.values.get()) {
         return Err(AnswerBad::NotText);
     }

@@ -1,11 +1,9 @@
 -- The lines of an answer's text, one after the other.
-use Rattle.std.proofs.Common.{◌≡◌, ℕ, ◌^◌, List, [], ◌∷◌, ◌++◌, get_or, refl, append_assoc, arith, ap, sym, ◌∙◌}
-use Rattle.std.specs.Prelude.{ℤ, pos, negsuc, codes, Bool, All}
-use Rattle.std.proofs.lemmas.Int.{ints}
-use Rattle.pf_model.specs.Answer.{IsWithinSize}
+use Rattle.std.proofs.Common.{◌≡◌, ℕ, List, [], ◌∷◌, ◌++◌, refl, append_assoc, ap, sym, ◌∙◌}
+use Rattle.std.specs.Prelude.{ℤ, codes, Bool}
 use Rattle.pf_model.specs.Fraction.{Fraction}
 use Rattle.pf_text.specs.Spelling.{line, row_line, fraction_line, side_line}
-use Rattle.pf_lines.specs.Taking.{IsBetween, IsRow}
+use Rattle.pf_lines.specs.Taking.{IsFlowRow}
 use Rattle.pf_ratio.specs.declared.text.Answer.{Answer}
 use Rattle.pf_ratio.specs.Answer.{IsAnswerShape, answer_text}
 
@@ -39,20 +37,8 @@ all_lines name word x set numbers rest =
     five (line (codes "o" ∷ name ∷ [])) (fraction_line word [] x []) (side_line (codes "s") [] [] set)
     (row_line (codes "f") [] numbers) (line (codes "end" ∷ [])) rest
 
--- the bounds of a number
-between : (n : ℤ) → IsWithinSize (2 ^ 104) n → IsBetween (negsuc 20282409603651670423947251286014) (pos 20282409603651670423947251286015) n
-between n size = let low = size.low in let high = size.high in record { low = omega (arith, ints, low); high = omega (arith, ints, high) }
-
-within : (n : ℤ) → IsBetween (negsuc 20282409603651670423947251286014) (pos 20282409603651670423947251286015) n → IsWithinSize (2 ^ 104) n
-within n bounds = let low = bounds.low in let high = bounds.high in record { low = omega (arith, ints, low); high = omega (arith, ints, high) }
-
-pub row_of_shape : (count width : ℕ) (x : Fraction) (set : List Bool) (numbers : List ℤ) → IsAnswerShape count width x set numbers →
-    IsRow width (negsuc 20282409603651670423947251286014) (pos 20282409603651670423947251286015) numbers
-row_of_shape count width x set numbers shape = record { full = shape.full; each = λ i d low. between (get_or numbers i d) (shape.each i d low) }
-
-pub shape_of_row : (width : ℕ) (numbers : List ℤ) → IsRow width (negsuc 20282409603651670423947251286014) (pos 20282409603651670423947251286015) numbers →
-    All (IsWithinSize (2 ^ 104)) numbers
-shape_of_row width numbers row = λ i d low. within (get_or numbers i d) (row.each i d low)
+pub row_of_shape : (count width : ℕ) (x : Fraction) (set : List Bool) (numbers : List ℤ) → IsAnswerShape count width x set numbers → IsFlowRow width numbers
+row_of_shape count width x set numbers shape = record { full = shape.full; each = shape.each }
 
 -- the same shape, with the counts under other names
 pub shape_at : (count count' width width' : ℕ) (x : Fraction) (set : List Bool) (numbers : List ℤ) → count ≡ count' → width ≡ width' →

@@ -1,5 +1,5 @@
 // The text of an answer: writing, and reading back.
-ghost use Rattle.std.specs.Prelude.{◌≡◌, ◌≢◌, ◌↔◌, ◌++◌, [], ◌∷◌, ℕ, ℤ, Bool, List, IsTrue, IfOk, Err, codes, false};
+ghost use Rattle.std.specs.Prelude.{◌≡◌, ◌≢◌, ◌++◌, [], ◌∷◌, ℕ, ℤ, Bool, List, IfOk, Err, codes, false};
 ghost use Rattle.pf_model.specs.Fraction.{Fraction};
 ghost use Rattle.pf_text.specs.Spelling.{line};
 ghost use Rattle.pf_io.specs.Printing.{Adds, is_spent};
@@ -9,7 +9,9 @@ ghost use Rattle.pf_ratio.specs.Answer.{IsAnswerShape, answer_text};
 
 use pf_frame::{Numbers, Side};
 use pf_io::{Failed, Printer, Sink, print_fraction_row, print_row, print_side_row};
-use pf_lines::{AnswerBad, Exact, take_fraction_row, take_row, take_side_row, take_word};
+use pf_lines::{
+    AnswerBad, Exact, take_end, take_flow_row, take_fraction_row, take_side_row, take_word,
+};
 use pf_rat::Rat;
 use std::alloc::Global;
 
@@ -20,11 +22,6 @@ pub struct Answer {
     pub chosen: Side,
     pub numbers: Numbers,
 }
-
-// The least and the greatest number.
-const LEAST: i128 = 1 - (1 << 104);
-
-const GREATEST: i128 = (1 << 104) - 1;
 
 // The first line.
 fn print_name<K: Sink>(out: &mut Printer<'_, K>, name: &[u8]) -> Result<(), Failed>
@@ -84,20 +81,13 @@ fn take_answer(
     take_name(text, name)?;
     let ratio = take_fraction_row(text, word, &[])?;
     let chosen = take_side_row(alloc, b"s", &[], count, text)?;
-    let numbers = take_row(alloc, b"f", &[], width, LEAST, GREATEST, text)?;
+    let numbers = take_flow_row(alloc, b"f", &[], width, text)?;
     take_word(text, b"end\n")?;
     Ok(Answer {
         ratio,
         chosen,
         numbers,
     })
-}
-
-// Whether nothing is left.
-fn is_at_end(text: &Exact<'_>) -> bool
-    ensures { IsTrue result ↔ (text.now ≡ []) }
-{
-    text.rest().is_empty()
 }
 
 /// The answer with a set of `count` places and `width` numbers whose text these bytes are: there is at most one. Numbers and words
@@ -117,8 +107,6 @@ pub fn read_answer(
 {
     let mut rest = Exact::new(text);
     let answer = take_answer(alloc, name, word, count, width, &mut rest)?;
-    if !is_at_end(&rest) {
-        return Err(AnswerBad::NotText);
-    }
+    take_end(&rest)?;
     Ok(answer)
 }

@@ -5,10 +5,9 @@ use Rattle.std.proofs.lemmas.List.{length-map, map_push}
 use Rattle.std.proofs.lemmas.List.Elements.{All-cons}
 use Rattle.pf_model.specs.Fraction.{Fraction}
 use Rattle.pf_text.specs.Spelling.{side_line}
-use Rattle.pf_lines.specs.declared.errors.AnswerBad.{AnswerBad}
 use Rattle.pf_lines.specs.declared.taking.Valued.{Valued}
-use Rattle.pf_lines.specs.Taking.{IsExcused}
-use Rattle.pf_lines.proofs.ItemsTaken.{Items, Stand, HasTaken, items_begin, item_taken, item_refused, items_end}
+use Rattle.pf_lines.proofs.ItemsTaken.{Items}
+use Rattle.pf_lines.proofs.PartsTaken.{Parts, PartsStand, HasParts, parts_text}
 use Rattle.pf_select.specs.Problem.{SelectionProblem, IsBoundedProblem, selection_at}
 use Rattle.pf_select.specs.Text.{selections_text}
 use Rattle.pf_select.specs.Outline.{IsChange, change_lines, all_changes, outline_text, outline_of, IsOutline, IsOutlineShape, HasWorths, IsSelectionsShape}
@@ -40,111 +39,56 @@ change_items width = record {
   follows = λ j change rest. tt;
 }
 
-changes_stand : (width count : ℕ) (old : List ℕ) (changes : List Change) (rest : List ℕ) → length changes ≡ count → All (IsChange width) changes →
-    old ≡ all_changes 0 changes ++ rest → Stand (change_items width) count old changes rest
-changes_stand width count old changes rest full each there = record { full = full; each = each; behind = tt; text = there }
-
 abbrev first_line : List Bool → List ℕ
 first_line first = side_line (codes "s") (0 ∷ []) [] first
 
--- the first selection and so many changes were taken, and the text of any others that stood there begins with them
-pub record HasGot (width count : ℕ) (old now : List ℕ) (j : ℕ) (o : Outline) : Type 0 where
-  pub first : List Bool
-  pub behind : List ℕ
-  pub changes : List Change
-  pub is : o ≡ outline_of first changes
-  pub full : length first ≡ width
-  pub front : old ≡ first_line first ++ behind
-  pub only : (set : List Bool) (rest : List ℕ) → length set ≡ width → old ≡ first_line set ++ rest → (first ≡ set) × (behind ≡ rest)
-  pub taken : HasTaken (change_items width) count behind now j changes
-
-abbrev pub outline_by : List Fraction → List (List Bool) → List ℤ → Outline
+abbrev outline_by : List Fraction → List (List Bool) → List ℤ → Outline
 outline_by prices selections values = record { prices = prices; selections = selections; values = values }
-
-pub outline_begins : (width count : ℕ) (old behind : List ℕ) (first : List Bool) (o : Outline) → o ≡ outline_by [] (first ∷ []) [] → length first ≡ width →
-    old ≡ first_line first ++ behind → ((set : List Bool) (rest : List ℕ) → length set ≡ width → old ≡ first_line set ++ rest → (first ≡ set) × (behind ≡ rest)) →
-    HasGot width count old behind 0 o
-outline_begins width count old behind first o is full front only = record {
-  first = first;
-  behind = behind;
-  changes = [];
-  is = is;
-  full = full;
-  front = front;
-  only = only;
-  taken = items_begin (change_items width) count behind;
-}
 
 three : (a a' : List Fraction) (b b' : List (List Bool)) (c c' : List ℤ) → a ≡ a' → b ≡ b' → c ≡ c' → outline_by a b c ≡ outline_by a' b' c'
 three a a' b b' c c' e f g = cc
 
-with_change : (first : List Bool) (changes : List Change) (change : Change) →
-    outline_by (map (λ (x : Change). x.point.at) changes ++ change.point.at ∷ []) ((first ∷ map (λ (x : Change). x.set) changes) ++ change.set ∷ [])
-    (map (λ (x : Change). x.point.value) changes ++ change.point.value ∷ [])
-    ≡ outline_of first (changes ++ change ∷ [])
-with_change first changes change =
+-- these lists, and a change after them
+abbrev pub with_change : Change → Outline → Outline
+with_change change o = outline_by (o.prices ++ change.point.at ∷ []) (o.selections ++ change.set ∷ []) (o.values ++ change.point.value ∷ [])
+
+pub lists_more : (first : List Bool) (changes : List Change) (change : Change) → with_change change (outline_of first changes) ≡ outline_of first (changes ++ change ∷ [])
+lists_more first changes change =
     three _ (map (λ (x : Change). x.point.at) (changes ++ change ∷ [])) _ (first ∷ map (λ (x : Change). x.set) (changes ++ change ∷ [])) _
     (map (λ (x : Change). x.point.value) (changes ++ change ∷ [])) (sym (map_push (λ (x : Change). x.point.at) changes change))
     (ap (λ (xs : List (List Bool)). first ∷ xs) (sym (map_push (λ (x : Change). x.set) changes change)))
     (sym (map_push (λ (x : Change). x.point.value) changes change))
 
-grown : (o : Outline) (first : List Bool) (changes : List Change) (change : Change) → o ≡ outline_of first changes →
-    outline_by (o.prices ++ change.point.at ∷ []) (o.selections ++ change.set ∷ []) (o.values ++ change.point.value ∷ []) ≡ outline_of first (changes ++ change ∷ [])
-grown o first changes change e =
-    ap (λ (x : Outline). outline_by (x.prices ++ change.point.at ∷ []) (x.selections ++ change.set ∷ []) (x.values ++ change.point.value ∷ [])) e
-    ∙ with_change first changes change
-
-pub outline_more : (width count : ℕ) (old now new : List ℕ) (j : ℕ) (o o' : Outline) (change : Change) → HasGot width count old now j o → j < count →
-    o' ≡ outline_by (o.prices ++ change.point.at ∷ []) (o.selections ++ change.set ∷ []) (o.values ++ change.point.value ∷ []) →
-    now ≡ change_lines (j + 1) change ++ new → IsChange width change →
-    ((other : Change) (rest : List ℕ) → IsChange width other → now ≡ change_lines (j + 1) other ++ rest → (change ≡ other) × (new ≡ rest)) →
-    HasGot width count old new (j + 1) o'
-outline_more width count old now new j o o' change got low added taken is found = record {
-  first = got.first;
-  behind = got.behind;
-  changes = got.changes ++ change ∷ [];
-  is = added ∙ grown o got.first got.changes change got.is;
-  full = got.full;
-  front = got.front;
-  only = got.only;
-  taken = item_taken (change_items width) count got.behind now new j got.changes change got.taken low taken is (λ other rest shape ok e. found other rest shape e);
+-- a first selection, and the changes after it
+abbrev pub outline_parts : ℕ → Parts (List Bool) Change Outline
+outline_parts width = record {
+  line = λ first. first_line first;
+  IsFirst = λ first. length first ≡ width;
+  items = change_items width;
+  lists = λ first changes. outline_of first changes;
+  add = λ change o. with_change change o;
+  more = lists_more;
 }
 
--- what stands after the first selection
-behind_first : (width count : ℕ) (old now : List ℕ) (j : ℕ) (o : Outline) (got : HasGot width count old now j o) (first : List Bool) (changes : List Change)
-    (rest : List ℕ) → length first ≡ width → old ≡ outline_text first changes ++ rest → (got.first ≡ first) × (got.behind ≡ all_changes 0 changes ++ rest)
-behind_first width count old now j o got first changes rest full there =
-    got.only first (all_changes 0 changes ++ rest) full (there ∙ append_assoc (first_line first) (all_changes 0 changes) rest)
+pub outline_stands : (width count : ℕ) (old : List ℕ) (first : List Bool) (changes : List Change) (rest : List ℕ) → length first ≡ width → length changes ≡ count → All (IsChange width) changes →
+    old ≡ outline_text first changes ++ rest → PartsStand (outline_parts width) count old first changes rest
+outline_stands width count old first changes rest full number each there = record {
+  shape = full;
+  full = number;
+  each = each;
+  behind = tt;
+  text = there ∙ append_assoc (first_line first) (all_changes 0 changes) rest;
+}
 
-pub outline_refused : (width count : ℕ) (old now : List ℕ) (j : ℕ) (o : Outline) (bad : AnswerBad) → HasGot width count old now j o → j < count →
-    ((other : Change) (rest : List ℕ) → IsChange width other → now ≡ change_lines (j + 1) other ++ rest → IsExcused bad) →
-    (first : List Bool) (changes : List Change) (rest : List ℕ) → length first ≡ width → length changes ≡ count → All (IsChange width) changes →
-    old ≡ outline_text first changes ++ rest → IsExcused bad
-outline_refused width count old now j o bad got low found first changes rest full number each there =
-    item_refused (change_items width) count got.behind now j got.changes bad got.taken low (λ other later shape ok e. found other later shape e) changes rest
-    (changes_stand width count got.behind changes rest number each (behind_first width count old now j o got first changes rest full there).1)
-
-same_outline : (first first' : List Bool) (changes changes' : List Change) → first ≡ first' → changes ≡ changes' → outline_of first changes ≡ outline_of first' changes'
-same_outline first first' changes changes' e f = ap (λ (x : List Bool). outline_of x changes) e ∙ ap (outline_of first') f
-
-pub outline_found : (width count : ℕ) (old now : List ℕ) (j : ℕ) (o : Outline) → HasGot width count old now j o → j ≡ count →
-    (first : List Bool) (changes : List Change) (rest : List ℕ) → length first ≡ width → length changes ≡ count → All (IsChange width) changes →
-    old ≡ outline_text first changes ++ rest → (o ≡ outline_of first changes) × (now ≡ rest)
-outline_found width count old now j o got all first changes rest full number each there =
-    let front = behind_first width count old now j o got first changes rest full there in
-    let end = items_end (change_items width) count got.behind now j got.changes got.taken all changes rest
-    (changes_stand width count got.behind changes rest number each front.1) in
-    (got.is ∙ same_outline got.first first got.changes changes front.0 end.0, end.1)
-
-pub outline_ends : (width count : ℕ) (old now : List ℕ) (j : ℕ) (o : Outline) → HasGot width count old now j o → j ≡ count → IsOutline width count o old now
-outline_ends width count old now j o got all = record {
-  first = got.first;
-  changes = got.changes;
-  is = got.is;
-  full = got.full;
-  number = got.taken.number ∙ all;
-  each = got.taken.each;
-  text = got.front ∙ ap (λ (t : List ℕ). first_line got.first ++ t) got.taken.taken ∙ sym (append_assoc (first_line got.first) (all_changes 0 got.changes) now);
+pub outline_ends : (width count : ℕ) (old now : List ℕ) (j : ℕ) (o : Outline) → HasParts (outline_parts width) count old now j o → j ≡ count → IsOutline width count o old now
+outline_ends width count old now j o taken all = record {
+  first = taken.first;
+  changes = taken.got;
+  is = taken.is;
+  full = taken.shape;
+  number = taken.taken.number ∙ all;
+  each = taken.taken.each;
+  text = parts_text (outline_parts width) count old now j o taken ∙ sym (append_assoc (first_line taken.first) (all_changes 0 taken.got) now);
 }
 
 -- ---- what was taken, with the worths

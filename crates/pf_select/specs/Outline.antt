@@ -1,8 +1,8 @@
 -- What the lines of selections and prices of a schedule's text say, whether or not the numbers that are written are what the
 -- selections are worth.
-use Rattle.std.specs.Prelude.{◌≡◌, ℕ, suc, ◌+◌, ◌<◌, ◌^◌, ℤ, Bool, List, [], ◌∷◌, ◌++◌, length, map, All, codes}
+use Rattle.std.specs.Prelude.{◌≡◌, ℕ, suc, ◌+◌, ◌<◌, Bool, List, [], ◌∷◌, ◌++◌, length, map, All, codes}
 use Rattle.pf_model.specs.Fraction.{Fraction}
-use Rattle.pf_model.specs.Answer.{IsFractionShape, IsWithinSize}
+use Rattle.pf_model.specs.Answer.{IsFractionShape}
 use Rattle.pf_model.specs.Cut.{at_arc}
 use Rattle.pf_text.specs.Spelling.{side_line}
 use Rattle.pf_lines.specs.Taking.{IsValued}
@@ -63,8 +63,3 @@ pub record IsSelectionsShape (p : SelectionProblem) (count : ℕ) (prices : List
   pub prices_shape : All IsFractionShape prices
   pub count_is : length selections ≡ suc count
   pub selections_shape : All (λ set. length set ≡ length p.costs) selections
-
--- so many charges, each of a size below 2^104
-pub record IsChargeRow (width : ℕ) (charges : List ℤ) : Type 0 where
-  pub full : length charges ≡ width
-  pub each : All (IsWithinSize (2 ^ 104)) charges

@@ -6,6 +6,7 @@ use Rattle.pf_text.specs.declared.RuleKind.{RuleKind}
 use Rattle.pf_text.specs.declared.RuleKind.TheVariants.{Repeated, Missing}
 use Rattle.pf_text.specs.Kinds.{FieldPattern, number, word, Form, Kind, broken_if}
 use Rattle.pf_text.specs.Spelling.{line, row_line, fraction_line, side_line}
+use Rattle.pf_lines.specs.Taking.{rows_text}
 use Rattle.pf_select.specs.Problem.{SelectionProblem, worth}
 use Rattle.pf_select.specs.Certificate.{ScheduleAnswer}
 
@@ -120,14 +121,9 @@ abbrev pub selections_text : SelectionProblem → List Fraction → List (List B
 selections_text p prices [] = []
 selections_text p prices (set ∷ selections) = side_line (codes "s") (0 ∷ []) [] set ++ changes_text p 0 set prices selections
 
--- the line of the charges at price j
-abbrev pub charge_line : ℕ → List ℤ → List ℕ
-charge_line j charges = row_line (codes "f") (j ∷ []) charges
-
 -- the charges at the prices from price j + 1 on
 abbrev pub charges_text : ℕ → List (List ℤ) → List ℕ
-charges_text j [] = []
-charges_text j (row ∷ rows) = charge_line (j + 1) row ++ charges_text (j + 1) rows
+charges_text j rows = rows_text (codes "f") (j + 1) rows
 
 -- the text of an answer: the number of prices, the selections with the prices between them, and the charges at each price
 unfoldable pub schedule_text : SelectionProblem → ScheduleAnswer → List ℕ

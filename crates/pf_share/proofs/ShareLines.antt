@@ -1,20 +1,16 @@
 -- The lines of levels and of shares, one after another.
 use Rattle.std.proofs.Common.{◌≡◌, ℕ, suc, Bool, false, ◌+◌, ◌<◌, ◌≤◌, List, [], ◌∷◌, ◌++◌, length, get_or, drop, refl, arith, ap, sym, add-one, ◌∙◌, append_assoc, length-append}
-use Rattle.std.specs.Prelude.{ℤ, ◌≤ℤ◌, ◌==◌, if◌then◌else◌, pos, negsuc, nat_abs, All, Result, Ok, Err, IfOk}
-use Rattle.pf_lines.specs.declared.errors.AnswerBad.{AnswerBad}
+use Rattle.std.specs.Prelude.{ℤ, ◌≤ℤ◌, ◌==◌, if◌then◌else◌, pos, nat_abs, All}
 use Rattle.std.proofs.lemmas.Int.{ints}
 use Rattle.std.proofs.lemmas.Bool.Decides.{nat_tests}
 use Rattle.std.proofs.lemmas.List.{append-nil}
 use Rattle.std.proofs.Math.Seq.{drop-cons}
 use Rattle.pf_model.specs.Fraction.{Fraction}
-use Rattle.pf_model.specs.Answer.{IsFractionShape, IsWithinSize}
+use Rattle.pf_model.specs.Answer.{IsFractionShape}
 use Rattle.pf_model.specs.Cut.{at_arc}
-use Rattle.pf_model.specs.Limits.{capacity_bound}
-use Rattle.pf_lines.specs.Taking.{IsBetween, IsRow}
 use Rattle.pf_lines.proofs.ItemsTaken.{Items, Stand}
 use Rattle.pf_share.specs.Certificate.{level_at}
 use Rattle.pf_share.specs.Text.{level_line, levels_text, share_line, node_text, shares_lines}
-use Rattle.pf_share.specs.Taken.{AreFlowNumbers}
 
 -- ---- levels
 
@@ -117,22 +113,3 @@ read_piece old now whole left piece later rest h e there =
 pub read_end : (old now whole left : List ℕ) → HasRead old now whole left → left ≡ [] → old ≡ whole ++ now
 read_end old now whole left h none =
     h.taken ∙ ap (λ (t : List ℕ). t ++ now) (sym (append-nil h.passed) ∙ ap (λ (t : List ℕ). h.passed ++ t) (sym none) ∙ sym h.split)
-
--- ---- the numbers on the arcs
-
-between : (n : ℤ) → IsWithinSize capacity_bound n → IsBetween (negsuc 20282409603651670423947251286014) (pos 20282409603651670423947251286015) n
-between n size = let low = size.low in let high = size.high in record { low = omega (arith, ints, low); high = omega (arith, ints, high) }
-
-within : (n : ℤ) → IsBetween (negsuc 20282409603651670423947251286014) (pos 20282409603651670423947251286015) n → IsWithinSize capacity_bound n
-within n bounds = let low = bounds.low in let high = bounds.high in record { low = omega (arith, ints, low); high = omega (arith, ints, high) }
-
-pub row_of_flow : (width : ℕ) (flow : List ℤ) → AreFlowNumbers width flow → IsRow width (negsuc 20282409603651670423947251286014) (pos 20282409603651670423947251286015) flow
-row_of_flow width flow row = record { full = row.full; each = λ i other low. between (get_or flow i other) (row.each i other low) }
-
-flow_of_row : (width : ℕ) (flow : List ℤ) → IsRow width (negsuc 20282409603651670423947251286014) (pos 20282409603651670423947251286015) flow → AreFlowNumbers width flow
-flow_of_row width flow row = record { full = row.full; each = λ i other low. within (get_or flow i other) (row.each i other low) }
-
-pub flow_of_taken : (width : ℕ) (result : Result (List ℤ) AnswerBad) → IfOk result (IsRow width (negsuc 20282409603651670423947251286014) (pos 20282409603651670423947251286015)) →
-    IfOk result (AreFlowNumbers width)
-flow_of_taken width (Ok flow) row = flow_of_row width flow row
-flow_of_taken width (Err bad) row = tt

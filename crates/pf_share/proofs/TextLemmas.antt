@@ -4,10 +4,11 @@ use Rattle.std.specs.Prelude.{ℤ, All, codes}
 use Rattle.pf_model.specs.Fraction.{Fraction}
 use Rattle.pf_model.specs.Answer.{IsFractionShape}
 use Rattle.pf_text.specs.Spelling.{line, row_line}
+use Rattle.pf_lines.specs.Taking.{IsFlowRow}
 use Rattle.pf_share.specs.Problem.{ShareProblem}
 use Rattle.pf_share.specs.Certificate.{SharesAnswer}
 use Rattle.pf_share.specs.Right.{IsGroupsShape, IsSharesShape}
-use Rattle.pf_share.specs.Taken.{AreFlowNumbers, front_text, front_of, IsFrontShape}
+use Rattle.pf_share.specs.Taken.{front_text, front_of, IsFrontShape}
 use Rattle.pf_share.specs.Text.{levels_text, shares_lines, shares_text}
 use Rattle.pf_share.proofs.ShareLines.{levels_bytes}
 
@@ -93,10 +94,10 @@ text_taken p old a b c d new levels groups flow first second third fourth fifth 
 pub front_of_shape : (p : ShareProblem) (a : SharesAnswer) → IsSharesShape p a → IsFrontShape p (front_of a.levels a.groups)
 front_of_shape p a shape = record { levels = shape.levels; groups = shape.groups }
 
-pub flow_of_shape : (p : ShareProblem) (a : SharesAnswer) (width : ℕ) → width ≡ length p.ends → IsSharesShape p a → AreFlowNumbers width a.flow
+pub flow_of_shape : (p : ShareProblem) (a : SharesAnswer) (width : ℕ) → width ≡ length p.ends → IsSharesShape p a → IsFlowRow width a.flow
 flow_of_shape p a width e shape = record { full = shape.flow_full ∙ sym e; each = shape.flow }
 
-pub whole_shape : (p : ShareProblem) (front : SharesAnswer) (flow : List ℤ) (width : ℕ) → width ≡ length p.ends → IsFrontShape p front → AreFlowNumbers width flow →
+pub whole_shape : (p : ShareProblem) (front : SharesAnswer) (flow : List ℤ) (width : ℕ) → width ≡ length p.ends → IsFrontShape p front → IsFlowRow width flow →
     IsSharesShape p (answer_of front.levels front.groups flow)
 whole_shape p front flow width e shape numbers = record {
   levels = shape.levels;

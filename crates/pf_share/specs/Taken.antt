@@ -1,9 +1,8 @@
 -- What the first lines of the text of an answer say.
-use Rattle.std.specs.Prelude.{◌≡◌, ℕ, ◌<◌, ℤ, ◌≤ℤ◌, pos, List, [], ◌∷◌, ◌++◌, length, All, codes}
+use Rattle.std.specs.Prelude.{ℕ, ◌<◌, ℤ, ◌≤ℤ◌, pos, List, [], ◌∷◌, ◌++◌, length, All, codes}
 use Rattle.pf_model.specs.Fraction.{Fraction}
-use Rattle.pf_model.specs.Answer.{IsFractionShape, IsWithinSize}
+use Rattle.pf_model.specs.Answer.{IsFractionShape}
 use Rattle.pf_model.specs.Cut.{at_arc}
-use Rattle.pf_model.specs.Limits.{capacity_bound}
 use Rattle.pf_text.specs.Spelling.{row_line}
 use Rattle.pf_share.specs.Problem.{ShareProblem}
 use Rattle.pf_share.specs.Certificate.{SharesAnswer}
@@ -17,11 +16,6 @@ pub record IsGrouped (weight group : ℤ) : Type 0 where
 -- each source of the first nodes has a group above 0
 pub record AreGrouped (p : ShareProblem) (groups : List ℤ) (count : ℕ) : Type 0 where
   pub each : (v : ℕ) → v < count → IsGrouped (at_arc p.weights v) (at_arc groups v)
-
--- so many numbers of a size below the bound of capacities
-pub record AreFlowNumbers (width : ℕ) (flow : List ℤ) : Type 0 where
-  pub full : length flow ≡ width
-  pub each : All (IsWithinSize capacity_bound) flow
 
 -- the number of levels, the levels, and the groups
 abbrev pub front_text : List Fraction → List ℤ → List ℕ

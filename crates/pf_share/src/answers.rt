@@ -2,14 +2,13 @@
 ghost use Rattle.std.specs.Prelude.{◌≡◌, ◌≢◌, ◌↔◌, ◌++◌, [], ◌∷◌, ◌+◌, ◌<◌, ◌≤◌, ◌≤ℤ◌, ℕ, ℤ, List, length, pos, All, IsTrue, IfOk, Err, codes};
 ghost use Rattle.std.specs.Fmt.{signed_decimal};
 ghost use Rattle.pf_model.specs.Fraction.{Fraction};
-ghost use Rattle.pf_model.specs.Answer.{IsFractionShape, IsWithinSize};
+ghost use Rattle.pf_model.specs.Answer.{IsFractionShape};
 ghost use Rattle.pf_model.specs.Cut.{at_arc};
-ghost use Rattle.pf_model.specs.Limits.{capacity_bound};
 ghost use Rattle.pf_text.specs.Spelling.{row_line};
 ghost use Rattle.pf_lines.specs.Taking.{Takes, Passes, Stops};
 ghost use Rattle.pf_share.specs.Certificate.{SharesAnswer};
 ghost use Rattle.pf_share.specs.Right.{IsGroupsShape, IsSharesShape};
-ghost use Rattle.pf_share.specs.Taken.{IsGrouped, AreGrouped, AreFlowNumbers, front_text, front_of, IsFrontShape};
+ghost use Rattle.pf_share.specs.Taken.{IsGrouped, AreGrouped, front_text, front_of, IsFrontShape};
 ghost use Rattle.pf_share.specs.Text.{level_line, levels_text, share_line, node_text, shares_lines, shares_text};
 
 use crate::shares::Shares;
@@ -18,15 +17,11 @@ use crate::weighted::share_of;
 use pf_curve::Points;
 use pf_frame::Numbers;
 use pf_lines::{
-    AnswerBad, Exact, take_count, take_fraction_row, take_head, take_number, take_row, take_word,
+    AnswerBad, Exact, take_count, take_end, take_flow_row, take_fraction_row, take_head,
+    take_number, take_row, take_word,
 };
 use pf_rat::Rat;
 use std::alloc::Global;
-
-// The least and the greatest number on an arc.
-const LEAST: i128 = 1 - (1 << 104);
-
-const GREATEST: i128 = (1 << 104) - 1;
 
 // The line of level `j`.
 fn take_level(j: usize, text: &mut Exact<'_>) -> Result<Rat, AnswerBad>
@@ -167,16 +162,6 @@ fn take_nodes(sharing: &Sharing, answer: &Shares, text: &mut Exact<'_>) -> Resul
     Ok(())
 }
 
-// The numbers on the arcs.
-fn take_flow(alloc: Global, width: usize, text: &mut Exact<'_>) -> Result<Numbers, AnswerBad>
-    ensures taken { IfOk result (λ flow. text.old ≡ row_line (codes "f") [] flow ++ text.new) }
-    ensures shape { IfOk result (AreFlowNumbers width) }
-    ensures found { (flow : List ℤ) (rest : List ℕ) → AreFlowNumbers width flow
-        → text.old ≡ row_line (codes "f") [] flow ++ rest → Takes flow rest result text.new }
-{
-    take_row(alloc, b"f", &[], width, LEAST, GREATEST, text)
-}
-
 // The levels and the groups, with no number on any arc.
 fn take_groups_of(
     alloc: Global,
@@ -206,16 +191,9 @@ fn take_shares(alloc: Global, sharing: &Sharing, text: &mut Exact<'_>) -> Result
     take_word(text, b"o share\n")?;
     let front = take_groups_of(alloc, sharing, text)?;
     take_nodes(sharing, &front, text)?;
-    let flow = take_flow(alloc, width, text)?;
+    let flow = take_flow_row(alloc, b"f", &[], width, text)?;
     take_word(text, b"end\n")?;
     Ok(front.with_flow(flow))
-}
-
-// Whether nothing is left.
-fn is_at_end(text: &Exact<'_>) -> bool
-    ensures { IsTrue result ↔ (text.now ≡ []) }
-{
-    text.rest().is_empty()
 }
 
 /// The shares of the right shape for the network whose text these bytes are: there is at most one answer of that text. Numbers and
@@ -231,8 +209,6 @@ pub fn read_shares(alloc: Global, sharing: &Sharing, text: &[u8]) -> Result<Shar
 {
     let mut rest = Exact::new(text);
     let answer = take_shares(alloc, sharing, &mut rest)?;
-    if !is_at_end(&rest) {
-        return Err(AnswerBad::NotText);
-    }
+    take_end(&rest)?;
     Ok(answer)
 }

@@ -1,6 +1,6 @@
 use Rattle.std.proofs.Common.{◌∙◌}
 use Rattle.std.proofs.lemmas.Result.{err_from_is_err_and}
-use Rattle.pf_ratio.proofs.TextLemmas.{last_lines, number_lines, set_lines, ratio_lines, all_lines, row_of_shape, shape_of_row, text_taken, same_answer}
+use Rattle.pf_ratio.proofs.TextLemmas.{last_lines, number_lines, set_lines, ratio_lines, all_lines, row_of_shape, text_taken, same_answer}
 use Rattle.pf_ratio.proofs.text.take_answer.Goals as goal
 
 pub returns-in_err-take_name-clause-found : goal.returns-in_err-take_name-clause-found
@@ -62,5 +62,5 @@ returns-clause-shape c = record {
   ratio = c.in_ok-ratio.ensures.shape;
   chosen = c.in_ok-chosen.ensures.count;
   full = c.in_ok-numbers.ensures.shape.full;
-  each = shape_of_row c.args.width c.in_ok-numbers.numbers c.in_ok-numbers.ensures.shape;
+  each = c.in_ok-numbers.ensures.shape.each;
 }
