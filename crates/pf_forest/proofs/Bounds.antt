@@ -1,16 +1,16 @@
 -- Sums over the edges of a graph within its limits are small.
-use Rattle.std.proofs.Common.{◌≡◌, ℕ, suc, ◌+◌, ◌*◌, ◌<◌, ◌≤◌, ◌^◌, List, [], ◌∷◌, length, Bool, true, false, cond, arith}
-use Rattle.std.specs.Prelude.{ℤ, ◌+ℤ◌, ◌*ℤ◌, ◌≤ℤ◌, ◌<ℤ◌, pos}
+use Rattle.std.proofs.Common.{◌≡◌, ℕ, suc, ◌+◌, ◌*◌, ◌<◌, ◌^◌, List, [], ◌∷◌, length, Bool, true, false, cond, arith}
+use Rattle.std.specs.Prelude.{ℤ, ◌+ℤ◌, ◌≤ℤ◌, pos}
 use Rattle.std.proofs.lemmas.Int.{ints}
 use Rattle.pf_model.specs.Cut.{sum_where, at_arc}
 use Rattle.pf_model.specs.Fraction.{Fraction, IsParameter}
-use Rattle.pf_model.proofs.Integers.{mul_most, mul_comm}
+use Rattle.pf_model.proofs.Integers.{mul_most}
 use Rattle.pf_graph.specs.WeightedGraph.{WeightedGraph, digraph_of}
 use Rattle.pf_graph.specs.Labels.{crosses}
 use Rattle.pf_graph.specs.Best.{crossing_of}
 use Rattle.pf_graph.specs.Limits.{IsWithinLimits}
 use Rattle.pf_graph.proofs.Levels.{crossing_low}
-use Rattle.pf_frame.specs.Numbers.{IsBounded, IsSized}
+use Rattle.pf_frame.specs.Numbers.{IsBounded}
 use Rattle.pf_forest.specs.Forest.{IsInRange}
 
 high_step : (here : Bool) (x a : ℤ) (m n k : ℕ) → x ≤ℤ pos m → a ≤ℤ pos n → k ≡ n + m → (cond here x (pos 0) +ℤ a) ≤ℤ pos k

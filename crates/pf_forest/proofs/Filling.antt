@@ -18,6 +18,7 @@ use Rattle.pf_graph.proofs.Counting.{count, count_more, count_none, occurs_find}
 use Rattle.pf_forest.specs.Held.{tail_of, head_of}
 use Rattle.pf_forest.specs.Forest.{IsSparse}
 use Rattle.pf_forest.specs.Filling.{IsForest, IsDone, IsRaised, IsGoals, CrossingAreFull, HasApartEnds}
+use Rattle.pf_forest.proofs.Lent.{number_read}
 use Rattle.pf_forest.proofs.Holding.{sum_low, each_set}
 use Rattle.pf_forest.proofs.Sets.{count_size}
 
@@ -224,17 +225,20 @@ edge_most g limit vector i graph s full nonneg low apart =
     both_true true false a b = cc
     both_true false q a b = cc
 
-pub record IsEdgeAtMost (limit : ℤ) (vector : List ℤ) (i : ℕ) : Type 0 where
+-- a number that was read is that of edge i, and at most the limit
+pub record IsEdgeAtMost (limit : ℤ) (vector : List ℤ) (i : ℕ) (read : ℤ) : Type 0 where
+  pub is : read ≡ at_arc vector i
   pub low : pos 0 ≤ℤ at_arc vector i
   pub most : at_arc vector i ≤ℤ limit
   pub small : limit ≤ℤ pos (2 ^ 80)
 
-pub edge_at_most : (g : Digraph) (limit : ℤ) (vector heads rooms : List ℤ) (groups : List ℕ) (i : ℕ) → IsDigraph g → IsForest g limit vector heads rooms groups →
-    HasApartEnds g.ends → i < length g.ends → IsEdgeAtMost limit vector i
-edge_at_most g limit vector heads rooms groups i graph f ends low =
+pub edge_at_most : (g : Digraph) (limit : ℤ) (vector heads rooms : List ℤ) (groups : List ℕ) (i : ℕ) (read : ℤ) → IsDigraph g → IsForest g limit vector heads rooms groups →
+    HasApartEnds g.ends → i < length g.ends → read ≡ get_or vector i read → IsEdgeAtMost limit vector i read
+edge_at_most g limit vector heads rooms groups i read graph f ends low e =
     let nonneg : (k : ℕ) → k < length g.ends → pos 0 ≤ℤ at_arc vector k = λ k in_range.
     let x = f.held.low k in_range in let y = f.held.high k in_range in omega (arith, ints, x, y) in
     record {
+      is = number_read vector i read e (omega (arith, low, f.held.vector_full));
       low = nonneg i low;
       most = edge_most g limit vector i graph f.sparse f.held.vector_full nonneg low (ends.apart i low);
       small = f.held.small;

@@ -111,6 +111,16 @@ put_ready g limit limit' vector heads rooms u v e amount same h b graph low tail
       fits = fits;
     }
 
+-- the same, and the forest as the two searches left it
+pub forest_put : (g : Digraph) (limit limit' : ℤ) (vector vector' heads rooms heads' rooms' : List ℤ) (groups : List ℕ) (u v e : ℕ) (amount : ℤ) → limit' ≡ limit → vector' ≡ vector →
+    IsForest g limit vector heads rooms groups → IsHeld g limit' vector' heads' rooms' → IsBare rooms' limit' v u → IsDigraph g → e < length g.ends →
+    u ≡ tail_of g.ends e → v ≡ head_of g.ends e → HasApartEnds g.ends → pos 0 ≤ℤ amount → amount ≤ℤ at_arc rooms' v →
+    IsForest g limit vector' heads' rooms' groups × IsPut g limit vector' heads' rooms' u v e amount
+forest_put g limit limit' vector vector' heads rooms heads' rooms' groups u v e amount same stays f h b graph low tail head ends least fits =
+    let P : List ℤ → Type 0 = λ l. IsForest g limit l heads rooms groups in
+    let put = put_ready g limit limit' vector' heads' rooms' u v e amount same h b graph low tail head ends least fits in
+    (forest_moves g limit vector' heads rooms heads' rooms' groups (subst P (sym stays) f) put.held, put)
+
 pub bounds_of : (g : Digraph) (limit : ℤ) (vector heads rooms : List ℤ) (v e : ℕ) → IsHeld g limit vector heads rooms → v < g.nodes → e < length g.ends →
     HasBounds vector heads rooms v e
 bounds_of g limit vector heads rooms v e h low_v low_e =

@@ -1,6 +1,6 @@
 -- What the lists of a forest tell of its vector and its partition.
-use Rattle.std.proofs.Common.{◌≡◌, ◌≢◌, ℕ, ◌+◌, ◌<◌, ◌≤◌, ◌^◌, List, [], ◌∷◌, ◌++◌, length, replicate, Bool, true, false, refl, length-append, arith, ap, sym, ◌∙◌, inl, inr, subst}
-use Rattle.std.specs.Prelude.{ℤ, ◌+ℤ◌, ◌-ℤ◌, ◌*ℤ◌, ◌≤ℤ◌, pos, ◌⊎◌, Option, Some, None}
+use Rattle.std.proofs.Common.{◌≡◌, ℕ, ◌+◌, ◌<◌, ◌^◌, List, [], ◌∷◌, ◌++◌, length, replicate, Bool, true, false, refl, length-append, arith, ap, sym, ◌∙◌, inl, inr, subst}
+use Rattle.std.specs.Prelude.{ℤ, ◌+ℤ◌, ◌-ℤ◌, ◌*ℤ◌, ◌≤ℤ◌, pos, Some}
 use Rattle.std.proofs.Math.ListN.{get_or-append}
 use Rattle.std.proofs.Math.Seq.{get_or-append_seam}
 use Rattle.std.proofs.lemmas.Int.{ints}
@@ -10,7 +10,6 @@ use Rattle.pf_model.specs.Digraph.{Digraph, IsDigraph}
 use Rattle.pf_model.specs.Fraction.{Fraction, IsParameter}
 use Rattle.pf_graph.specs.WeightedGraph.{WeightedGraph, IsWeightedGraph, digraph_of}
 use Rattle.pf_graph.specs.Labels.{label, parts, IsPartition, IsSamePartition, IsPartitionOf, Refines}
-use Rattle.pf_graph.specs.Best.{crossing_of}
 use Rattle.pf_graph.specs.Limits.{IsWithinLimits}
 use Rattle.pf_model.proofs.Integers.{mul_nonneg, mul_most, mul_comm}
 use Rattle.pf_graph.proofs.ByRule.{same_parts, same_crossing}
@@ -18,7 +17,7 @@ use Rattle.pf_graph.proofs.Counting.{finer_parts, parts_most}
 use Rattle.pf_graph.proofs.Levels.{singles, length_singles, parts_singles}
 use Rattle.pf_forest.specs.Held.{tail_of, head_of}
 use Rattle.pf_forest.specs.Forest.{IsInRange, MeetsTotal, KeepsForest, IsFilled}
-use Rattle.pf_forest.specs.Filling.{IsForest, CrossingAreFull, AreWithinGoals, IsGoals, AreGoalsOf, IsRaised, HasLists, IsStanding, IsStandingAt, IsWhole, level_of}
+use Rattle.pf_forest.specs.Filling.{IsForest, CrossingAreFull, AreWithinGoals, IsGoals, AreGoalsOf, IsRaised, IsStanding, IsStandingAt, IsWhole, level_of}
 use Rattle.pf_forest.specs.declared.workspace.Workspace.{Workspace}
 use Rattle.pf_forest.proofs.Filling.{forest_starts}
 use Rattle.pf_forest.proofs.Law.{full_sum, scaled_crossing, best_of_sum}

@@ -5,7 +5,6 @@ use Rattle.pf_model.specs.Fraction.{Fraction, IsParameter}
 use Rattle.pf_model.specs.Digraph.{Digraph}
 use Rattle.pf_graph.specs.WeightedGraph.{WeightedGraph, digraph_of, inside, total}
 use Rattle.pf_graph.specs.Labels.{label, occurs, part, parts, crossing, Refines, IsPartitionOf}
-use Rattle.pf_graph.specs.Limits.{IsWithinLimits}
 use Rattle.pf_forest.specs.Held.{IsHeld, HasTables, tail_of, head_of}
 use Rattle.pf_forest.specs.Forest.{IsSparse, bound_of}
 use Rattle.pf_forest.specs.declared.workspace.Workspace.{Workspace}

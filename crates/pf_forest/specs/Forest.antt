@@ -1,5 +1,5 @@
 -- Sparse vectors, splits, and the forest condition.
-use Rattle.std.specs.Prelude.{◌≡◌, ℕ, ◌+◌, ◌<◌, ◌≤◌, ℤ, ◌+ℤ◌, ◌-ℤ◌, ◌*ℤ◌, ◌≤ℤ◌, pos, Bool, List, length, Option, Some, None}
+use Rattle.std.specs.Prelude.{◌≡◌, ℕ, ◌+◌, ◌<◌, ℤ, ◌+ℤ◌, ◌-ℤ◌, ◌*ℤ◌, ◌≤ℤ◌, pos, Bool, List, length, Option, Some, None}
 use Rattle.pf_model.specs.Cut.{at_arc, size}
 use Rattle.pf_model.specs.Flow.{sum_out, sum_in}
 use Rattle.pf_model.specs.Fraction.{Fraction, IsParameter}

@@ -5,7 +5,7 @@ ghost use Rattle.pf_forest.specs.Held.{HasTables};
 use pf_frame::NoMemory;
 use std::alloc::Global;
 
-/// Room for one search at a time. All but the queue is indexed by vertices.
+/// Room for one search at a time. `side`, `via` and `rank` are indexed by vertices.
 #[derive(Drop)]
 pub struct Workspace {
     /// The vertices that the search came to.
@@ -16,7 +16,7 @@ pub struct Workspace {
     pub via: Vec<u32>,
     /// The place of each of them in the queue.
     pub rank: Vec<usize>,
-    /// The groups of vertices that become one.
+    /// Which groups of vertices become one, indexed by groups.
     pub hits: Vec<bool>,
 }
 

@@ -1,5 +1,5 @@
 use Rattle.std.proofs.Common.{◌≡◌, ◌<◌, ◌≤◌, get_or, length, replicate, to_z, of_z, arith, ap, ◌∙◌}
-use Rattle.std.specs.Prelude.{ℤ, ◌≤ℤ◌, ◌^◌, pos}
+use Rattle.std.specs.Prelude.{◌≤ℤ◌, ◌^◌, pos}
 use Rattle.std.proofs.lemmas.Int.{ints}
 use Rattle.pf_model.specs.Cut.{at_arc}
 use Rattle.pf_frame.proofs.Steps.{out_item}

@@ -1,11 +1,11 @@
-use Rattle.std.proofs.Common.{◌≡◌, ℕ, List, length, to_z, of_z, arith, refl, ap, sym, ◌∙◌, subst}
+use Rattle.std.proofs.Common.{◌≡◌, ℕ, List, to_z, of_z, arith, refl, ap, sym, ◌∙◌, subst}
 use Rattle.std.specs.Prelude.{ℤ, ◌-ℤ◌, ◌≤ℤ◌, ◌<ℤ◌}
 use Rattle.std.proofs.lemmas.Int.{ints}
 use Rattle.pf_model.specs.Cut.{at_arc}
 use Rattle.pf_forest.specs.Held.{HasTables}
-use Rattle.pf_forest.specs.Filling.{IsForest, IsLifted, IsRaised}
+use Rattle.pf_forest.specs.Filling.{IsLifted, IsRaised}
 use Rattle.pf_forest.proofs.Lent.{number_read}
-use Rattle.pf_forest.proofs.Raise.{forest_moves, raise_full, raise_joined, put_ready, bounds_of}
+use Rattle.pf_forest.proofs.Raise.{raise_full, raise_joined, forest_put, bounds_of}
 use Rattle.pf_forest.proofs.fill.raise_to.Goals as goal
 use mir.Syntax.{w128}
 
@@ -49,15 +49,13 @@ returns-then-not-full c =
     omega (arith, ints, low, high, c.requires.goal, c.requires.top, few, now, here) in
     let P : ℤ → Type 0 = λ x. IsLifted c.gather-full.new.charges.vector.items c.gather-full.new.charges.heads.items c.gather-full.new.charges.rooms.items c.head-v.result c.args.e x
     c.lift.new.charges.vector.items c.lift.new.charges.heads.items c.lift.new.charges.rooms.items in
-    let Q : List ℤ → Type 0 = λ l. IsForest c.args.frame.now c.args.limit l c.args.charges.now.heads.items c.args.charges.now.rooms.items c.args.groups.now in
     let R : List ℤ → Type 0 = λ l. IsRaised c.args.frame.now l c.args.groups.now c.lift.new.charges.vector.items c.unite.new.groups c.args.e c.args.goal in
     let S : ℕ → Type 0 = λ n. HasTables n c.unite.new.workspace in
     let l = subst P same_goal c.lift.ensures.lifted in
-    let put = put_ready c.args.frame.now c.args.limit _ _ _ _ c.tail-u.result c.head-v.result c.args.e l.amount same
+    let ready = forest_put c.args.frame.now c.args.limit _ _ _ _ _ _ _ c.args.groups.now c.tail-u.result c.head-v.result c.args.e l.amount same vector c.requires.forest
     c.gather-full.ensures.held c.gather-full.ensures.skip c.nodes.ensures.graph c.requires.edge c.tail-u.ensures.value c.head-v.ensures.value c.requires.apart l.low l.fits in
-    let forest = forest_moves c.args.frame.now c.args.limit _ _ _ _ _ c.args.groups.now (subst Q (sym vector) c.requires.forest) put.held in
     let raised = raise_joined c.args.frame.now c.args.limit _ _ _ c.args.groups.now c.tail-u.result c.head-v.result c.args.e
-    l.amount c.args.goal _ _ _ c.gather-full.new.workspace.side.items _ _ c.unite.new.groups forest put c.if-groups-u.false (l.all less) l.most
+    l.amount c.args.goal _ _ _ c.gather-full.new.workspace.side.items _ _ c.unite.new.groups ready.0 ready.1 c.if-groups-u.false (l.all less) l.most
     l.vector_is l.heads_is l.rooms_is c.gather-full.ensures.tables.side_full (c.if-not-full.ensures.marked refl) (c.if-not-full.ensures.none refl) (c.if-not-full.ensures.shut refl)
     refl refl c.unite.ensures.joined in
     record {
@@ -81,14 +79,12 @@ returns-else-not-full c =
     omega (arith, ints, low, high, c.requires.goal, c.requires.top, enough, now, here) in
     let P : ℤ → Type 0 = λ x. IsLifted c.gather-full.new.charges.vector.items c.gather-full.new.charges.heads.items c.gather-full.new.charges.rooms.items c.head-v.result c.args.e x
     c.lift.new.charges.vector.items c.lift.new.charges.heads.items c.lift.new.charges.rooms.items in
-    let Q : List ℤ → Type 0 = λ l. IsForest c.args.frame.now c.args.limit l c.args.charges.now.heads.items c.args.charges.now.rooms.items c.args.groups.now in
     let R : List ℤ → Type 0 = λ l. IsRaised c.args.frame.now l c.args.groups.now c.lift.new.charges.vector.items c.args.groups.now c.args.e c.args.goal in
     let l = subst P same_goal c.lift.ensures.lifted in
-    let put = put_ready c.args.frame.now c.args.limit _ _ _ _ c.tail-u.result c.head-v.result c.args.e l.amount same
+    let ready = forest_put c.args.frame.now c.args.limit _ _ _ _ _ _ _ c.args.groups.now c.tail-u.result c.head-v.result c.args.e l.amount same vector c.requires.forest
     c.gather-full.ensures.held c.gather-full.ensures.skip c.nodes.ensures.graph c.requires.edge c.tail-u.ensures.value c.head-v.ensures.value c.requires.apart l.low l.fits in
-    let forest = forest_moves c.args.frame.now c.args.limit _ _ _ _ _ c.args.groups.now (subst Q (sym vector) c.requires.forest) put.held in
     let raised = raise_full c.args.frame.now c.args.limit _ _ _ c.args.groups.now c.tail-u.result c.head-v.result c.args.e
-    l.amount c.args.goal _ _ _ forest put c.if-groups-u.false (l.done less) l.vector_is l.heads_is l.rooms_is in
+    l.amount c.args.goal _ _ _ ready.0 ready.1 c.if-groups-u.false (l.done less) l.vector_is l.heads_is l.rooms_is in
     record {
       forest = raised.0;
       tables = c.gather-full.ensures.tables;

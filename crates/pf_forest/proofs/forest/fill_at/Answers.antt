@@ -1,9 +1,7 @@
 use Rattle.std.proofs.Common.{◌≡◌, to_z, of_z, arith, subst}
-use Rattle.std.specs.Prelude.{ℤ}
 use Rattle.std.proofs.lemmas.Int.{ints}
 use Rattle.pf_model.specs.Digraph.{Digraph}
-use Rattle.pf_forest.specs.Forest.{IsFilled}
-use Rattle.pf_forest.specs.Filling.{IsStanding, IsStandingAt, AreWithinGoals}
+use Rattle.pf_forest.specs.Filling.{IsStanding, AreWithinGoals}
 use Rattle.pf_forest.proofs.Standing.{forest_here, goals_here, level_here, filled_of}
 use Rattle.pf_forest.proofs.forest.fill_at.Goals as goal
 use mir.Syntax.{w128}

@@ -1,4 +1,3 @@
-use Rattle.std.proofs.Common.{◌≡◌, ◌<◌, length, arith}
 use Rattle.pf_forest.proofs.Standing.{own_more}
 use Rattle.pf_forest.proofs.forest.own_groups.Goals as goal
 

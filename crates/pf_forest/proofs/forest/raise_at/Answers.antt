@@ -1,5 +1,4 @@
 use Rattle.std.proofs.Common.{◌≡◌, ℕ, to_z, of_z, arith, ap, subst}
-use Rattle.std.specs.Prelude.{ℤ}
 use Rattle.std.proofs.lemmas.Int.{ints}
 use Rattle.pf_model.specs.Digraph.{Digraph}
 use Rattle.pf_graph.specs.Labels.{Refines}

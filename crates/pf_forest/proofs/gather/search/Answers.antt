@@ -55,19 +55,13 @@ returns-then-hit-none c =
     }
 
 pub bounds-queue-taken : goal.bounds-queue-taken
-bounds-queue-taken c =
-    let m = c.search.invariant.search.marking in
-    omega (arith, m.places, taken_room _ _ _ _ _ m)
+bounds-queue-taken c = omega (arith, c.search.invariant.queue, taken_room _ _ _ _ _ c.search.invariant.search.marking)
 
 pub offset_bounds-queue-taken : goal.offset_bounds-queue-taken
-offset_bounds-queue-taken c =
-    let m = c.search.invariant.search.marking in
-    omega (arith, m.places, taken_room _ _ _ _ _ m)
+offset_bounds-queue-taken c = omega (arith, c.search.invariant.queue, taken_room _ _ _ _ _ c.search.invariant.search.marking)
 
 pub overflow_add-taken : goal.overflow_add-taken
-overflow_add-taken c =
-    let m = c.search.invariant.search.marking in
-    omega (arith, m.places, taken_room _ _ _ _ _ m)
+overflow_add-taken c = omega (arith, c.search.invariant.queue, taken_room _ _ _ _ _ c.search.invariant.search.marking)
 
 pub bounds-heads-i : goal.bounds-heads-i
 bounds-heads-i c =
@@ -119,9 +113,7 @@ outs-preserved c =
     ]
 
 pub search-smaller : goal.search-smaller
-search-smaller c =
-    let m = c.search.invariant.search.marking in
-    omega (arith, taken_room _ _ _ _ _ m)
+search-smaller c = omega (arith, taken_room _ _ _ _ _ c.search.invariant.search.marking)
 
 pub search-preserved : goal.search-preserved
 search-preserved c = record {

@@ -1,9 +1,9 @@
-use Rattle.std.proofs.Common.{◌≡◌, ◌<◌, ℕ, List, length, replicate, arith, ap, sym, ◌∙◌, subst}
+use Rattle.std.proofs.Common.{◌≡◌, ℕ, List, length, replicate, arith, ap, sym, ◌∙◌, subst}
 use Rattle.std.specs.Prelude.{ℤ, pos}
 use Rattle.std.proofs.lemmas.Int.{ints}
 use Rattle.std.proofs.lemmas.List.{length-replicate}
 use Rattle.pf_model.specs.Digraph.{Digraph}
-use Rattle.pf_graph.specs.Labels.{label, IsPartitionOf}
+use Rattle.pf_graph.specs.Labels.{IsPartitionOf}
 use Rattle.pf_forest.specs.Held.{HasTables}
 use Rattle.pf_forest.specs.Filling.{IsStanding}
 use Rattle.pf_forest.proofs.Standing.{standing_starts, own_parts}

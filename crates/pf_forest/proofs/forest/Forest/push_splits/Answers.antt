@@ -1,7 +1,5 @@
 use Rattle.std.proofs.Common.{◌≡◌, ℕ, ◌++◌, [], ◌∷◌, length, take, drop, arith, ap, ◌∙◌, subst}
 use Rattle.std.specs.Prelude.{Some}
-use Rattle.std.proofs.lemmas.Int.{ints}
-use Rattle.pf_model.specs.Fraction.{Fraction}
 use Rattle.pf_graph.specs.WeightedGraph.{WeightedGraph, digraph_of}
 use Rattle.pf_forest.specs.Forest.{ForestState, IsSplit, AddsSplits}
 use Rattle.pf_forest.proofs.Giving.{adds_more}

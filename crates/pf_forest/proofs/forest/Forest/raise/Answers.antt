@@ -1,5 +1,4 @@
 use Rattle.std.proofs.Common.{◌≡◌, ◌++◌, length, take, drop, refl, arith, ap, ◌∙◌, subst}
-use Rattle.std.proofs.lemmas.Int.{ints}
 use Rattle.pf_model.specs.Cut.{at_arc}
 use Rattle.pf_model.specs.Fraction.{Fraction}
 use Rattle.pf_forest.specs.Forest.{ForestState, KeepsForest}
