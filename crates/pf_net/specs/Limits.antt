@@ -7,7 +7,7 @@ use Rattle.pf_model.specs.Fraction.{Fraction}
 use Rattle.pf_model.specs.Limits.{most_nodes, most_arcs, most_constant, most_slope, most_end}
 use Rattle.pf_model.specs.Digraph.{Digraph}
 use Rattle.pf_model.specs.Network.{Network, IsMonotone, ends_of}
-use Rattle.pf_net.specs.declared.outline.Outline.{Outline}
+use Rattle.pf_net.specs.declared.setting.Setting.{Setting}
 
 pub record IsSmallArc (arc : AffineArc) : Type 0 where
   pub a_low : neg_ℤ (pos most_constant) ≤ℤ arc.a
@@ -31,9 +31,9 @@ pub record IsWithinLimits (net : Network) : Type 0 where
 abbrev pub with_sense : Sense → ℕ → ℕ → ℕ → Fraction → Fraction → List AffineArc → Network
 with_sense sense n s t low high arcs = record { nodes = n; source = s; sink = t; sense = sense; low = low; high = high; arcs = arcs }
 
--- the network of this outline and these arcs
-abbrev pub outlined : Outline → List AffineArc → Network
-outlined outline arcs = with_sense outline.sense outline.nodes outline.source outline.sink outline.low outline.high arcs
+-- the network of this setting and these arcs
+abbrev pub with_arcs : Setting → List AffineArc → Network
+with_arcs setting arcs = with_sense setting.sense setting.nodes setting.source setting.sink setting.low setting.high arcs
 
 -- the rising network of these numbers, and the falling one
 abbrev pub rising : ℕ → ℕ → ℕ → Fraction → Fraction → List AffineArc → Network

@@ -4,16 +4,16 @@
 //! it. The mirror of a network is the network of the other sense seen from the other end of the interval.
 #![tactic(auto)]
 
-mod checks;
 mod mirrored;
 mod net;
-mod outline;
+mod rules;
+mod setting;
 mod sums;
 #[cfg(test)]
 mod tests;
 
-pub use checks::{capacity, keeps_rule};
 pub use mirrored::negated;
 pub use net::{Net, NetBad};
-pub use outline::Outline;
 pub use pf_model::{AffineArc, Sense};
+pub use rules::{capacity, keeps_rule};
+pub use setting::Setting;

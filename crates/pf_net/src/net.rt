@@ -4,12 +4,12 @@ ghost use Rattle.pf_model.specs.declared.AffineArc.{AffineArc};
 ghost use Rattle.pf_model.specs.Network.{Network, IsInInterval, IsNetworkCut, capacity_at, cut_a, cut_b};
 ghost use Rattle.pf_model.specs.Mirror.{mirror};
 ghost use Rattle.pf_frame.specs.Numbers.{IsBounded};
-ghost use Rattle.pf_net.specs.Limits.{IsBuilt, digraph_of, outlined, rising, falling};
+ghost use Rattle.pf_net.specs.Limits.{IsBuilt, digraph_of, with_arcs, rising, falling};
 ghost use Rattle.pf_net.specs.Refusal.{refusal_of};
 
-use crate::checks::first_refusal;
+use crate::rules::first_refusal;
 use crate::mirrored::{mirror_arcs, negated, turned};
-use crate::outline::Outline;
+use crate::setting::Setting;
 use crate::sums::{capacities, line_of};
 use pf_frame::{Frame, NoMemory};
 use pf_model::{AffineArc, Sense};
@@ -86,31 +86,31 @@ fn ends_of_arcs(alloc: Global, arcs: &[AffineArc]) -> Result<Vec<(u32, u32)>, No
 }
 
 // The network of numbers against which there is no reason.
-fn make(alloc: Global, outline: Outline, arcs: &[AffineArc]) -> Result<Net, NoMemory>
-    requires source { outline.source < outline.nodes }
-    requires sink { outline.sink < outline.nodes }
-    requires none { refusal_of (outlined outline arcs.now) ≡ None }
-    ensures { IfOk result (λ net. net ≡ outlined outline arcs.now) }
+fn make(alloc: Global, setting: Setting, arcs: &[AffineArc]) -> Result<Net, NoMemory>
+    requires source { setting.source < setting.nodes }
+    requires sink { setting.sink < setting.nodes }
+    requires none { refusal_of (with_arcs setting arcs.now) ≡ None }
+    ensures { IfOk result (λ net. net ≡ with_arcs setting arcs.now) }
 {
-    let (low, high) = (outline.low.q(), outline.high.q());
+    let (low, high) = (setting.low.q(), setting.high.q());
     prove!(low >= 1 && high >= 1);
     let arcs = Vec::from_slice(alloc, arcs)?;
-    Net::from_outline(alloc, outline, arcs)
+    Net::from_setting(alloc, setting, arcs)
 }
 
-// The network of this outline and these arcs, or the first reason against it.
-fn judged(alloc: Global, outline: Outline, arcs: &[AffineArc]) -> Result<Net, NetBad>
-    requires source { outline.source < outline.nodes }
-    requires sink { outline.sink < outline.nodes }
-    ensures given { IfOk result (λ net. net ≡ outlined outline arcs.now) }
-    ensures accepted { IfOk result (λ _. refusal_of (outlined outline arcs.now) ≡ None) }
+// The network of this setting and these arcs, or the first reason against it.
+fn judged(alloc: Global, setting: Setting, arcs: &[AffineArc]) -> Result<Net, NetBad>
+    requires source { setting.source < setting.nodes }
+    requires sink { setting.sink < setting.nodes }
+    ensures given { IfOk result (λ net. net ≡ with_arcs setting arcs.now) }
+    ensures accepted { IfOk result (λ _. refusal_of (with_arcs setting arcs.now) ≡ None) }
     ensures refused { (bad : NetBad) → result ≡ Err bad → bad ≢ NetBad.NoMemory
-        → refusal_of (outlined outline arcs.now) ≡ Some bad }
+        → refusal_of (with_arcs setting arcs.now) ≡ Some bad }
 {
-    if let Some(bad) = first_refusal(&outline, arcs) {
+    if let Some(bad) = first_refusal(&setting, arcs) {
         return Err(bad);
     }
-    Ok(make(alloc, outline, arcs)?)
+    Ok(make(alloc, setting, arcs)?)
 }
 
 impl Net {
@@ -134,7 +134,7 @@ impl Net {
         ensures refused { (bad : NetBad) → result ≡ Err bad → bad ≢ NetBad.NoMemory
             → refusal_of (rising n s t lo hi arcs.now) ≡ Some bad }
     {
-        let outline = Outline {
+        let setting = Setting {
             sense: Sense::Rising,
             nodes: n,
             source: s,
@@ -142,7 +142,7 @@ impl Net {
             low: lo,
             high: hi,
         };
-        judged(alloc, outline, arcs)
+        judged(alloc, setting, arcs)
     }
 
     /// A falling network of `n` nodes with the source `s`, the sink `t`, the interval from `lo` to `hi` and these arcs, or
@@ -164,7 +164,7 @@ impl Net {
         ensures refused { (bad : NetBad) → result ≡ Err bad → bad ≢ NetBad.NoMemory
             → refusal_of (falling n s t lo hi arcs.now) ≡ Some bad }
     {
-        let outline = Outline {
+        let setting = Setting {
             sense: Sense::Falling,
             nodes: n,
             source: s,
@@ -172,7 +172,7 @@ impl Net {
             low: lo,
             high: hi,
         };
-        judged(alloc, outline, arcs)
+        judged(alloc, setting, arcs)
     }
 
     /// The rising network of numbers that are known to be one, within the limits. The arcs are handed over, and neither
@@ -190,7 +190,7 @@ impl Net {
         ensures { IfOk result (λ net. net ≡ rising n s t lo hi arcs.items) }
     {
         let sense = Sense::Rising;
-        let outline = Outline {
+        let setting = Setting {
             sense,
             nodes: n,
             source: s,
@@ -198,29 +198,29 @@ impl Net {
             low: lo,
             high: hi,
         };
-        Net::from_outline(alloc, outline, arcs)
+        Net::from_setting(alloc, setting, arcs)
     }
 
-    /// The network of this outline and of arcs that are known to make one with it, within the limits. The arcs are handed over, and
+    /// The network of this setting and of arcs that are known to make one with it, within the limits. The arcs are handed over, and
     /// neither judged nor copied.
-    pub fn from_outline(
+    pub fn from_setting(
         alloc: Global,
-        outline: Outline,
+        setting: Setting,
         arcs: Vec<AffineArc>,
     ) -> Result<Net, NoMemory>
-        requires { IsBuilt (outlined outline arcs.items) }
-        ensures { IfOk result (λ net. net ≡ outlined outline arcs.items) }
+        requires { IsBuilt (with_arcs setting arcs.items) }
+        ensures { IfOk result (λ net. net ≡ with_arcs setting arcs.items) }
     {
         let ends = ends_of_arcs(alloc, arcs.as_slice())?;
-        let frame = Frame::from_ends(alloc, outline.nodes, ends)?;
+        let frame = Frame::from_ends(alloc, setting.nodes, ends)?;
         Ok(Net {
             frame,
             arcs,
-            s: outline.source,
-            t: outline.sink,
-            sense: outline.sense,
-            lo: outline.low,
-            hi: outline.high,
+            s: setting.source,
+            t: setting.sink,
+            sense: setting.sense,
+            lo: setting.low,
+            hi: setting.high,
         })
     }
 
@@ -235,7 +235,7 @@ impl Net {
         let lo = negated(self.hi());
         let hi = negated(self.lo());
         let nodes = frame.nodes();
-        let outline = Outline {
+        let setting = Setting {
             sense,
             nodes,
             source: self.source(),
@@ -243,7 +243,7 @@ impl Net {
             low: lo,
             high: hi,
         };
-        Net::from_outline(alloc, outline, arcs)
+        Net::from_setting(alloc, setting, arcs)
     }
 
     /// The nodes and arcs, without capacities. What holds of every network is told here.

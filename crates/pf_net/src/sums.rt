@@ -4,7 +4,7 @@ ghost use Rattle.pf_model.specs.Cut.{sum_where, leaves};
 ghost use Rattle.pf_model.specs.Network.{capacity_at, ends_of};
 ghost use Rattle.pf_net.specs.Limits.{IsSmallArc};
 
-use crate::checks::capacity;
+use crate::rules::capacity;
 use pf_model::AffineArc;
 use pf_rat::{Line, Rat};
 

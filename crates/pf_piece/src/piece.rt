@@ -9,7 +9,7 @@ ghost use Rattle.pf_piece.specs.Held.{arc_at};
 use crate::inner::inner_arcs;
 use crate::opening::{ends_at, kept_of, places_of};
 use pf_frame::{Frame, NoMemory};
-use pf_net::{AffineArc, Net, Outline};
+use pf_net::{AffineArc, Net, Setting};
 use std::alloc::Global;
 use std::marker::Model;
 
@@ -136,7 +136,7 @@ impl<'a> Piece<'a> {
     {
         let arcs = inner_arcs(alloc, self)?;
         let nodes = self.node_count();
-        let outline = Outline {
+        let setting = Setting {
             sense: self.net.sense(),
             nodes,
             source: 0,
@@ -144,6 +144,6 @@ impl<'a> Piece<'a> {
             low: *self.net.lo(),
             high: *self.net.hi(),
         };
-        Net::from_outline(alloc, outline, arcs)
+        Net::from_setting(alloc, setting, arcs)
     }
 }

@@ -2,7 +2,7 @@ use Rattle.std.proofs.Common.{◌≡◌, arith}
 use Rattle.std.proofs.lemmas.Int.{ints}
 use Rattle.pf_rat.proofs.Products.{comes_back}
 use Rattle.pf_net.proofs.CapacityBounds.{short}
-use Rattle.pf_net.proofs.checks.capacity.Goals as goal
+use Rattle.pf_net.proofs.rules.capacity.Goals as goal
 
 pub overflow_add-result : goal.overflow_add-result
 overflow_add-result c =

@@ -7,7 +7,7 @@ use Rattle.pf_model.specs.Digraph.{Digraph, IsDigraph}
 use Rattle.pf_model.specs.Network.{Network, ends_of}
 use Rattle.pf_net.specs.Limits.{IsBuilt, digraph_of, with_sense}
 use Rattle.pf_net.proofs.Built.{graph_is}
-use Rattle.pf_net.proofs.net.Net.from_outline.Goals as goal
+use Rattle.pf_net.proofs.net.Net.from_setting.Goals as goal
 
 few_ends : (ends : List (ℕ × ℕ)) (net : Network) → IsBuilt net → ends ≡ map ends_of net.arcs → length ends ≤ 32768
 few_ends ends net b e = rw (e, length-map net.arcs ends_of) b.limits.arcs
@@ -30,6 +30,6 @@ from_ends-requires-clause-graph c =
 
 pub invariant_of-result : goal.invariant_of-result
 invariant_of-result c =
-    let outline = c.args.outline in
-    whole c.in_ok-frame.frame c.in_ok-ends.ends.items outline.sense outline.nodes outline.source outline.sink outline.low outline.high c.args.arcs.items c.requires
+    let setting = c.args.setting in
+    whole c.in_ok-frame.frame c.in_ok-ends.ends.items setting.sense setting.nodes setting.source setting.sink setting.low setting.high c.args.arcs.items c.requires
     (c.in_ok-ends.ensures ∙ ap (map ends_of) c.as_slice.ensures.value) c.in_ok-frame.ensures

@@ -4,11 +4,11 @@ ghost use Rattle.std.specs.List.{list_any};
 ghost use Rattle.pf_model.specs.declared.AffineArc.{AffineArc};
 ghost use Rattle.pf_model.specs.Fraction.{IsParameter};
 ghost use Rattle.pf_model.specs.Network.{capacity_at, fits_source, fits_sink, keeps_slope};
-ghost use Rattle.pf_net.specs.Limits.{IsSmallArc, outlined};
+ghost use Rattle.pf_net.specs.Limits.{IsSmallArc, with_arcs};
 ghost use Rattle.pf_net.specs.Refusal.{is_large, is_far, is_too_big, arc_refusal, arcs_refusal, refusal_of};
 
 use crate::net::NetBad;
-use crate::outline::Outline;
+use crate::setting::Setting;
 use pf_frame::{MOST_ARCS, MOST_NODES};
 use pf_model::{AffineArc, Sense};
 use pf_rat::Rat;
@@ -76,30 +76,30 @@ pub fn keeps_rule(sense: Sense, s: u32, t: u32, arc: &AffineArc) -> bool
 }
 
 // The first reason against the arc of the number `i`, from 0.
-fn against_arc(outline: &Outline, i: usize, arc: &AffineArc) -> Option<NetBad>
+fn against_arc(setting: &Setting, i: usize, arc: &AffineArc) -> Option<NetBad>
     requires { is_large arc.now ≡ false }
-    ensures { (all : List AffineArc) → result ≡ arc_refusal (outlined outline.now all) i arc.now }
+    ensures { (all : List AffineArc) → result ≡ arc_refusal (with_arcs setting.now all) i arc.now }
 {
-    let n = outline.nodes;
+    let n = setting.nodes;
     if arc.tail >= n || arc.head >= n {
         return Some(NetBad::BadEnd(i));
     }
-    if !keeps_rule(outline.sense, outline.source, outline.sink, arc) {
+    if !keeps_rule(setting.sense, setting.source, setting.sink, arc) {
         return Some(NetBad::NotMonotone(i));
     }
-    if capacity(arc, &outline.low) < 0 || capacity(arc, &outline.high) < 0 {
+    if capacity(arc, &setting.low) < 0 || capacity(arc, &setting.high) < 0 {
         return Some(NetBad::Negative(i));
     }
     None
 }
 
 // The first reason against an arc.
-fn against_arcs(outline: &Outline, arcs: &[AffineArc]) -> Option<NetBad>
+fn against_arcs(setting: &Setting, arcs: &[AffineArc]) -> Option<NetBad>
     requires { list_any is_large arcs.now ≡ false }
-    ensures { (all : List AffineArc) → result ≡ arcs_refusal (outlined outline.now all) 0 arcs.now }
+    ensures { (all : List AffineArc) → result ≡ arcs_refusal (with_arcs setting.now all) 0 arcs.now }
 {
     'arcs: for i in 0..arcs.len() {
-        if let Some(bad) = against_arc(outline, i, &arcs[i]) {
+        if let Some(bad) = against_arc(setting, i, &arcs[i]) {
             return Some(bad);
         }
     }
@@ -107,11 +107,11 @@ fn against_arcs(outline: &Outline, arcs: &[AffineArc]) -> Option<NetBad>
 }
 
 /// The first reason against a network, in the order in which `Net::build` and `Net::build_falling` answer it.
-pub fn first_refusal(outline: &Outline, arcs: &[AffineArc]) -> Option<NetBad>
-    ensures { result ≡ refusal_of (outlined outline.now arcs.now) }
+pub fn first_refusal(setting: &Setting, arcs: &[AffineArc]) -> Option<NetBad>
+    ensures { result ≡ refusal_of (with_arcs setting.now arcs.now) }
 {
-    let (lo, hi) = (&outline.low, &outline.high);
-    if outline.nodes > MOST_NODES
+    let (lo, hi) = (&setting.low, &setting.high);
+    if setting.nodes > MOST_NODES
         || arcs.len() > MOST_ARCS
         || any_large(arcs)
         || lies_far(lo)
@@ -119,11 +119,11 @@ pub fn first_refusal(outline: &Outline, arcs: &[AffineArc]) -> Option<NetBad>
     {
         return Some(NetBad::TooBig);
     }
-    if outline.source == outline.sink {
+    if setting.source == setting.sink {
         return Some(NetBad::SameEnds);
     }
     if !(lo < hi) {
         return Some(NetBad::EmptyInterval);
     }
-    against_arcs(outline, arcs)
+    against_arcs(setting, arcs)
 }
