@@ -13,7 +13,7 @@ ghost use Rattle.pf_par.specs.ParState.{given_of, header_of};
 
 use pf_lines::{LineBad, RuleKind};
 use pf_model::AffineArc;
-use pf_net::{Net, Sense, capacity, keeps_rule};
+use pf_net::{Net, Outline, Sense, capacity, keeps_rule};
 use pf_rat::Rat;
 use std::alloc::Global;
 use std::cmp::Ordering;
@@ -189,8 +189,15 @@ impl ParState {
             return Err(LineBad::Broken(RuleKind::Missing));
         };
         let sense = sense_or_rising(sense);
-        let (low, high) = (interval.low, interval.high);
-        let net = Net::with_sense(alloc, sense, nodes, s, t, low, high, arcs)?;
+        let outline = Outline {
+            sense,
+            nodes,
+            source: s,
+            sink: t,
+            low: interval.low,
+            high: interval.high,
+        };
+        let net = Net::from_outline(alloc, outline, arcs)?;
         Ok(net)
     }
 }
