@@ -13,7 +13,7 @@ ghost use Rattle.pf_par.specs.ParState.{given_of, header_of};
 
 use pf_lines::{LineBad, RuleKind};
 use pf_model::AffineArc;
-use pf_net::{Net, Outline, Sense, capacity, keeps_rule};
+use pf_net::{Net, Sense, Setting, capacity, keeps_rule};
 use pf_rat::Rat;
 use std::alloc::Global;
 use std::cmp::Ordering;
@@ -189,7 +189,7 @@ impl ParState {
             return Err(LineBad::Broken(RuleKind::Missing));
         };
         let sense = sense_or_rising(sense);
-        let outline = Outline {
+        let setting = Setting {
             sense,
             nodes,
             source: s,
@@ -197,7 +197,7 @@ impl ParState {
             low: interval.low,
             high: interval.high,
         };
-        let net = Net::from_outline(alloc, outline, arcs)?;
+        let net = Net::from_setting(alloc, setting, arcs)?;
         Ok(net)
     }
 }

@@ -3,8 +3,8 @@ use Rattle.pf_par.specs.Text.{ParameterInterval}
 use Rattle.pf_par.proofs.EndLemmas.{good_network}
 use Rattle.pf_par.proofs.given.ParState.network.Goals as goal
 
-pub from_outline-requires : goal.from_outline-requires
-from_outline-requires c =
+pub from_setting-requires : goal.from_setting-requires
+from_setting-requires c =
     let m = c.in-Some-Some-Some in
     let s = c.args.self in
     let interval : ParameterInterval = record { low = c.interval.inside.low; high = c.interval.inside.high } in
