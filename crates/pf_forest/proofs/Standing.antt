@@ -194,13 +194,12 @@ level_here g frame x q' goals vector groups e parameter low same a crossing =
       crossing = subst P e crossing;
     }
 
-pub raised_here : (g : WeightedGraph) (x : Fraction) (goals old old' new : List ℤ) (groups groups' joined : List ℕ) (e : ℕ) (goal : ℤ) → IsWeightedGraph g → old' ≡ old →
-    groups' ≡ groups → IsRaised (digraph_of g) old' groups' new joined e goal → label joined (tail_of g.ends e) ≡ label joined (head_of g.ends e) →
+pub raised_here : (g : WeightedGraph) (x : Fraction) (goals old new : List ℤ) (groups groups' joined : List ℕ) (e : ℕ) (goal : ℤ) → IsWeightedGraph g → groups' ≡ groups →
+    IsRaised (digraph_of g) old groups' new joined e goal → label joined (tail_of g.ends e) ≡ label joined (head_of g.ends e) →
     IsStandingAt g x goals old groups → IsStandingAt g x goals new joined
-raised_here g x goals old old' new groups groups' joined e goal graph a b r same s =
-    let P : List ℤ → Type 0 = λ l. IsRaised (digraph_of g) l groups' new joined e goal in
-    let Q : List ℕ → Type 0 = λ l. IsRaised (digraph_of g) old l new joined e goal in
-    raised_at g x goals old new groups joined e goal graph (subst Q b (subst P a r)) same s
+raised_here g x goals old new groups groups' joined e goal graph same r met s =
+    let P : List ℕ → Type 0 = λ l. IsRaised (digraph_of g) old l new joined e goal in
+    raised_at g x goals old new groups joined e goal graph (subst P same r) met s
 
 pub total_here : (a b c d q p : ℤ) → a ≡ c → b ≡ d → (a *ℤ q) +ℤ (b *ℤ p) ≡ (q *ℤ c) +ℤ (p *ℤ d)
 total_here a b c d q p e f =

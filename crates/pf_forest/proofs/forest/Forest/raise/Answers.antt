@@ -1,8 +1,8 @@
-use Rattle.std.proofs.Common.{◌≡◌, ◌++◌, length, take, drop, refl, arith, ap, ◌∙◌, subst}
+use Rattle.std.proofs.Common.{arith, ap, ◌∙◌, subst}
 use Rattle.pf_model.specs.Cut.{at_arc}
 use Rattle.pf_model.specs.Fraction.{Fraction}
 use Rattle.pf_forest.specs.Forest.{ForestState, KeepsForest}
-use Rattle.pf_forest.proofs.Lent.{back}
+use Rattle.pf_forest.proofs.Lent.{lent}
 use Rattle.pf_forest.proofs.Standing.{raised_here, keeps_of, level_seen}
 use Rattle.pf_forest.proofs.forest.Forest.raise.Goals as goal
 
@@ -11,9 +11,8 @@ invariant_of-self c =
     let r = c.raise_at.ensures in
     let f = r.standing.forest in
     let labels = r.standing.labels_are.partition.full in
-    let b_groups : take c.self.inside.groups.len (c.raise_at.new.groups ++ drop (length c.raise_at.new.groups) c.self.inside.groups.items) ≡ c.raise_at.new.groups =
-    back _ _ _ (omega (arith, c.self.inside.groups.ok.0, c.self.invariant.lists.groups_full, f.full)) in
-    rw b_groups (record {
+    let groups = lent c.self.inside.groups.len c.self.inside.groups.items c.raise_at.new.groups (omega (arith, c.self.inside.groups.ok.0)) (omega (arith, c.self.invariant.lists.groups_full, f.full)) in
+    rw groups (record {
       lists = record {
         goals_full = c.self.invariant.lists.goals_full;
         vector_full = f.held.vector_full;
@@ -24,7 +23,7 @@ invariant_of-self c =
       };
       standing = r.standing;
       tables = r.tables;
-      at_level = λ told. raised_here _ _ _ _ _ _ _ _ _ _ _ r.limits.graph refl c.deref_mut.ensures.value r.raised r.met (c.self.invariant.at_level told);
+      at_level = λ told. raised_here _ _ _ _ _ _ _ _ _ _ r.limits.graph c.deref_mut.ensures.value r.raised r.met (c.self.invariant.at_level told);
     })
 
 pub returns-clause-others : goal.returns-clause-others
@@ -39,5 +38,5 @@ returns-clause-kept c =
           let P : Fraction → Type 0 = λ z. KeepsForest c.self.inside.graph.now z c.raise_at.new.charges.vector.items c.raise_at.new.partition in
           subst P seen.1
           (keeps_of c.self.inside.graph.now c.self.inside.level c.self.inside.goals.items _ _ _ _ _ r.limits.graph r.standing
-          (raised_here _ _ _ _ _ _ _ _ _ _ _ r.limits.graph refl c.deref_mut.ensures.value r.raised r.met (c.self.invariant.at_level seen.0)));
+          (raised_here _ _ _ _ _ _ _ _ _ _ r.limits.graph c.deref_mut.ensures.value r.raised r.met (c.self.invariant.at_level seen.0)));
     }
