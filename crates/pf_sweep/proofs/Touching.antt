@@ -19,17 +19,20 @@ arc_there net frame i e low =
     let full = ap (λ (g : Digraph). length g.ends) e in
     omega (arith, low, full, length-map net.arcs ends_of)
 
-pub wanted_here : (net : Network) (unit p cap : ℤ) (arc : AffineArc) (i : ℕ) → i < length net.arcs → arc ≡ get_or net.arcs i no_arc → cap ≡ capacity_at (of_units unit p) arc →
-    cap ≡ at_arc (caps_of net unit p) i
-wanted_here net unit p cap arc i low e f = f ∙ ap (λ a. capacity_at (of_units unit p) a) e ∙ sym (cap_here net unit p i low)
+-- the capacity of arc i at p/unit, within the bounds
+pub record IsCap (net : Network) (unit p : ℤ) (i : ℕ) (cap : ℤ) : Type 0 where
+  pub is : cap ≡ at_arc (caps_of net unit p) i
+  pub low : pos 0 ≤ℤ cap
+  pub high : cap <ℤ pos (2 ^ 104)
 
-pub wanted_bounds : (net : Network) (unit p cap : ℤ) (i : ℕ) → IsBounded (digraph_of net) (caps_of net unit p) → i < length net.arcs → cap ≡ at_arc (caps_of net unit p) i →
-    (pos 0 ≤ℤ cap) × (cap <ℤ pos (2 ^ 104))
-wanted_bounds net unit p cap i b low e =
+pub cap_found : (net : Network) (unit p : ℤ) (i : ℕ) (cap : ℤ) (arc : AffineArc) → IsBounded (digraph_of net) (caps_of net unit p) → i < length net.arcs → arc ≡ get_or net.arcs i no_arc →
+    cap ≡ capacity_at (of_units unit p) arc → IsCap net unit p i cap
+cap_found net unit p i cap arc b low e f =
+    let is : cap ≡ at_arc (caps_of net unit p) i = f ∙ ap (λ a. capacity_at (of_units unit p) a) e ∙ sym (cap_here net unit p i low) in
     let there = arc_there net (digraph_of net) i refl low in
     let least = b.low i there in
     let most = b.high i there in
-    (omega (arith, ints, e, least), omega (arith, ints, e, most))
+    record { is = is; low = omega (arith, ints, is, least); high = omega (arith, ints, is, most) }
 
 pub fitted_is : (g frame : Digraph) (labels : List ℕ) (s s' i : ℕ) (filled : Bool) (cap wanted x y : ℤ) → frame ≡ g → s' ≡ s → filled ≡ is_filled frame labels s' i → cap ≡ wanted →
     y ≡ fitted filled cap x → y ≡ fitted (is_filled g labels s i) wanted x

@@ -6,7 +6,7 @@ use Rattle.pf_model.proofs.Affine.{no_arc}
 use Rattle.pf_sweep.specs.Parameters.{of_units}
 use Rattle.pf_sweep.specs.Moving.{caps_of}
 use Rattle.pf_sweep.proofs.Onward.{written_begins, written_more, written_ends}
-use Rattle.pf_sweep.proofs.Touching.{wanted_here, wanted_bounds, arc_counted}
+use Rattle.pf_sweep.proofs.Touching.{cap_found, arc_counted}
 use Rattle.pf_sweep.proofs.moving.write_caps.Goals as goal
 use mir.Syntax.{w128}
 
@@ -22,31 +22,25 @@ pub put-requires-clause-low : goal.put-requires-clause-low
 put-requires-clause-low c =
     let counted = arc_counted c.args.net.now c.frame-frame.result.now c.arcs-count.result c.frame-frame.ensures.frame c.arcs-count.ensures.value in
     let low : c.each.i < length c.args.net.now.arcs = omega (arith, counted) in
-    let e = c.capacity-cap.ensures in
-    let wanted = wanted_here c.args.net.now c.args.at.now.unit c.args.at.now.p c.capacity-cap.result c.arc-arc.result c.each.i low c.arc-arc.ensures e in
-    let b = wanted_bounds c.args.net.now c.args.at.now.unit c.args.at.now.p c.capacity-cap.result c.each.i c.requires.wanted low wanted in
-    omega (arith, ints, b.0, b.1)
+    let cap = cap_found c.args.net.now c.args.at.now.unit c.args.at.now.p c.each.i c.capacity-cap.result c.arc-arc.result c.requires.wanted low c.arc-arc.ensures c.capacity-cap.ensures in
+    omega (arith, ints, cap.low, cap.high)
 
 pub put-requires-clause-high : goal.put-requires-clause-high
 put-requires-clause-high c =
     let counted = arc_counted c.args.net.now c.frame-frame.result.now c.arcs-count.result c.frame-frame.ensures.frame c.arcs-count.ensures.value in
     let low : c.each.i < length c.args.net.now.arcs = omega (arith, counted) in
-    let e = c.capacity-cap.ensures in
-    let wanted = wanted_here c.args.net.now c.args.at.now.unit c.args.at.now.p c.capacity-cap.result c.arc-arc.result c.each.i low c.arc-arc.ensures e in
-    let b = wanted_bounds c.args.net.now c.args.at.now.unit c.args.at.now.p c.capacity-cap.result c.each.i c.requires.wanted low wanted in
-    omega (arith, ints, b.0, b.1)
+    let cap = cap_found c.args.net.now c.args.at.now.unit c.args.at.now.p c.each.i c.capacity-cap.result c.arc-arc.result c.requires.wanted low c.arc-arc.ensures c.capacity-cap.ensures in
+    omega (arith, ints, cap.low, cap.high)
 
 pub each-preserved : goal.each-preserved
 each-preserved c =
     let counted = arc_counted c.args.net.now c.frame-frame.result.now c.arcs-count.result c.frame-frame.ensures.frame c.arcs-count.ensures.value in
     let low : c.each.i < length c.args.net.now.arcs = omega (arith, counted) in
-    let e = c.capacity-cap.ensures in
-    let wanted = wanted_here c.args.net.now c.args.at.now.unit c.args.at.now.p c.capacity-cap.result c.arc-arc.result c.each.i low c.arc-arc.ensures e in
-    let b = wanted_bounds c.args.net.now c.args.at.now.unit c.args.at.now.p c.capacity-cap.result c.each.i c.requires.wanted low wanted in
-    let back : to_z w128 (of_z w128 c.capacity-cap.result) ≡ c.capacity-cap.result = omega (arith, ints, b.0, b.1) in
+    let cap = cap_found c.args.net.now c.args.at.now.unit c.args.at.now.p c.each.i c.capacity-cap.result c.arc-arc.result c.requires.wanted low c.arc-arc.ensures c.capacity-cap.ensures in
+    let back : to_z w128 (of_z w128 c.capacity-cap.result) ≡ c.capacity-cap.result = omega (arith, ints, cap.low, cap.high) in
     let w = c.each.invariant in
     (written_more (caps_of c.args.net.now c.args.at.now.unit c.args.at.now.p) c.each.caps c.put.new.numbers c.each.i w
-    (omega (arith, low, length-map c.args.net.now.arcs (capacity_at (of_units c.args.at.now.unit c.args.at.now.p)))) (c.put.ensures ∙ ap (λ z. set c.each.caps c.each.i z) (back ∙ wanted)))
+    (omega (arith, low, length-map c.args.net.now.arcs (capacity_at (of_units c.args.at.now.unit c.args.at.now.p)))) (c.put.ensures ∙ ap (λ z. set c.each.caps c.each.i z) (back ∙ cap.is)))
 
 pub returns : goal.returns
 returns c =
