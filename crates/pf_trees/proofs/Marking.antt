@@ -189,6 +189,10 @@ pub record IsScanning (ends : List (ℕ × ℕ)) (cut : ℕ → ℕ → Bool) (s
   pub depth_is : depth ≡ at level x + 1
   pub seen : IsHandled ends cut slot mark x t
 
+-- the number of slots, told by the table
+pub placed_whole : (m t : ℕ) (slot place : List ℕ) → IsPlaced m t slot place → IsPlaced m (length slot) slot place
+placed_whole m t slot place p = subst (λ n. IsPlaced m n slot place) (sym p.slots_full) p
+
 pub scan_begins : (ends : List (ℕ × ℕ)) (cut : ℕ → ℕ → Bool) (slot place : List ℕ) (total : ℕ) (mark : List Bool) (queue from level : List ℕ) (taken put x depth : ℕ) →
     IsSearching ends cut slot place total mark queue from level taken put → taken < put → x ≡ at queue taken → depth ≡ at level x + 1 →
     IsScanning ends cut slot place total mark queue from level (taken + 1) put x 0 depth

@@ -3,6 +3,7 @@ pub mod Sides
 pub mod Slots
 pub mod State
 pub mod Search
+pub mod Tables
 pub mod Answer
 pub mod Finding
 pub mod Text

@@ -1,55 +1,45 @@
 // Trees or a partition, over tables that the caller lends.
-ghost use Rattle.std.specs.Prelude.{◌≡◌, ◌+◌, ◌-◌, ◌*◌, ◌^◌, ◌<◌, ◌≤◌, length, replicate, true, false};
-ghost use Rattle.pf_model.specs.Digraph.{IsDigraph};
+ghost use Rattle.std.specs.Prelude.{◌≡◌, ◌-◌, ◌*◌, ◌≤◌, length, replicate, true, false};
 ghost use Rattle.pf_trees.specs.Trees.{AreTrees, HasFewEdges, with_ends};
-ghost use Rattle.pf_trees.specs.Search.{HasPlaces};
+ghost use Rattle.pf_trees.specs.Tables.{IsInstance, HasRoom};
 
 use crate::cuts::begin;
 use crate::grow::{free_slot, grow, number};
 use crate::labels::join_marked;
+use crate::packing::{Instance, Packing};
+use crate::search::Room;
 
 // Whether there are `k` trees: then `numbers` holds the number of the tree beside each edge, else `groups` the groups of vertices that
 // forbid them.
 pub(crate) fn decide(
-    ends: &[(u32, u32)],
-    n: u32,
-    k: u32,
-    cuts: &mut [bool],
-    slot: &mut [usize],
-    place: &mut [usize],
-    mark: &mut [bool],
-    queue: &mut [usize],
-    from: &mut [usize],
-    level: &mut [usize],
+    instance: Instance<'_>,
+    packing: &mut Packing<'_>,
+    room: &mut Room<'_>,
     chain: &mut [usize],
     groups: &mut [u32],
     numbers: &mut [i128],
 ) -> bool
-    requires two { 1 < n }
-    requires graph { IsDigraph (with_ends n ends.now) }
-    requires few { length ends.now < 2 ^ 32 }
-    requires enough { k * (n - 1) ≤ length ends.now }
-    requires cuts { cuts.old ≡ replicate ((k * (n - 1)) * n) false }
-    requires slot { slot.old ≡ replicate (k * (n - 1)) (length ends.now) }
-    requires place { place.old ≡ replicate (length ends.now) (k * (n - 1)) }
-    requires places { HasPlaces (length ends.now) mark.old queue.old from.old level.old }
-    requires chain { length chain.old ≡ length ends.now }
-    requires groups { length groups.old ≡ n }
-    requires numbers { length numbers.old ≡ length ends.now }
-    ensures trees { result ≡ true → AreTrees (with_ends n ends.now) k numbers.new }
-    ensures blocked { result ≡ false → HasFewEdges (with_ends n ends.now) k groups.new }
+    requires instance { IsInstance instance }
+    requires enough { instance.k * (instance.n - 1) ≤ length instance.ends.now }
+    requires cuts { packing.old.cuts.now ≡ replicate ((instance.k * (instance.n - 1)) * instance.n) false }
+    requires slot { packing.old.slot.now ≡ replicate (instance.k * (instance.n - 1)) (length instance.ends.now) }
+    requires place { packing.old.place.now ≡ replicate (length instance.ends.now) (instance.k * (instance.n - 1)) }
+    requires places { HasRoom (length instance.ends.now) room.old }
+    requires chain { length chain.old ≡ length instance.ends.now }
+    requires groups { length groups.old ≡ instance.n }
+    requires numbers { length numbers.old ≡ length instance.ends.now }
+    ensures trees { result ≡ true → AreTrees (with_ends instance.entry.n instance.entry.ends.now) instance.entry.k numbers.new }
+    ensures blocked { result ≡ false → HasFewEdges (with_ends instance.entry.n instance.entry.ends.now) instance.entry.k groups.new }
 {
-    let m = ends.len();
-    let total = slot.len();
-    let width = (n - 1) as usize;
-    begin(n as usize, width, total, cuts);
-    grow(
-        ends, n as usize, width, k as usize, cuts, slot, place, mark, queue, from, level, chain,
-    );
-    if free_slot(slot, m) < total {
-        join_marked(n, ends, mark, groups);
+    let m = instance.ends.len();
+    let total = packing.slot.len();
+    let width = (instance.n - 1) as usize;
+    begin(instance.n as usize, width, total, packing.cuts);
+    grow(instance, packing, room, chain);
+    if free_slot(packing.slot, m) < total {
+        join_marked(instance.n, instance.ends, room.mark, groups);
         return false;
     }
-    number(place, width, total, numbers);
+    number(packing.place, width, total, numbers);
     true
 }

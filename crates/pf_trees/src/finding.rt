@@ -6,6 +6,8 @@ ghost use Rattle.pf_trees.specs.Finding.{IsFound};
 
 use crate::decide::decide;
 use crate::labels::apart;
+use crate::packing::{Instance, Packing};
+use crate::search::Room;
 use pf_frame::NoMemory;
 use std::alloc::Global;
 
@@ -26,8 +28,9 @@ pub fn find(alloc: Global, n: u32, ends: &[(u32, u32)], k: u32) -> Result<Found,
     requires most { k ≤ 500 }
     ensures { IfOk result (IsFound (with_ends n ends.now) k) }
 {
+    let instance = Instance { ends, n, k };
     let m = ends.len();
-    let total = (k as usize) * ((n - 1) as usize);
+    let total = (instance.k as usize) * ((n - 1) as usize);
     let mut groups = vec![in alloc; 0u32; n as usize]?;
     if m < total {
         apart(n, &mut groups);
@@ -42,17 +45,21 @@ pub fn find(alloc: Global, n: u32, ends: &[(u32, u32)], k: u32) -> Result<Found,
     let mut level = vec![in alloc; 0usize; m]?;
     let mut chain = vec![in alloc; 0usize; m]?;
     let mut numbers = vec![in alloc; 0i128; m]?;
+    let mut packing = Packing {
+        cuts: &mut cuts,
+        slot: &mut slot,
+        place: &mut place,
+    };
+    let mut room = Room {
+        mark: &mut mark,
+        queue: &mut queue,
+        from: &mut from,
+        level: &mut level,
+    };
     let found = decide(
-        ends,
-        n,
-        k,
-        &mut cuts,
-        &mut slot,
-        &mut place,
-        &mut mark,
-        &mut queue,
-        &mut from,
-        &mut level,
+        instance,
+        &mut packing,
+        &mut room,
         &mut chain,
         &mut groups,
         &mut numbers,

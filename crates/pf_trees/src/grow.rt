@@ -1,38 +1,39 @@
 // The trees grow by one edge at a time.
-ghost use Rattle.std.specs.Prelude.{◌≡◌, ◌≢◌, ℕ, pos, ◌+◌, ◌*◌, ◌^◌, ◌<◌, ◌≤◌, length, true, slice_set};
+ghost use Rattle.std.specs.Prelude.{◌≡◌, ◌≢◌, ℕ, pos, ◌+◌, ◌-◌, ◌*◌, ◌^◌, ◌<◌, ◌≤◌, length, true, slice_set};
 ghost use Rattle.pf_model.specs.Cut.{at_arc};
-ghost use Rattle.pf_model.specs.Digraph.{IsDigraph};
-ghost use Rattle.pf_trees.specs.Trees.{with_ends};
 ghost use Rattle.pf_trees.specs.Sides.{separates, cut_at};
 ghost use Rattle.pf_trees.specs.Slots.{at, edge_at, unplaced, tree_number};
-ghost use Rattle.pf_trees.specs.State.{IsState, IsClosed};
-ghost use Rattle.pf_trees.specs.Search.{IsChain, KeepsOthers, IsLast, HasPlaces};
+ghost use Rattle.pf_trees.specs.State.{IsClosed};
+ghost use Rattle.pf_trees.specs.Search.{IsChain, KeepsOthers, IsLast};
+ghost use Rattle.pf_trees.specs.Tables.{IsInstance, IsPacking, HasRoom};
 
 use crate::cuts::{exchange, separates};
-use crate::search::{search, trace};
+use crate::packing::{Instance, Packing};
+use crate::search::{Room, search, trace};
 
 // The last edge of the chain, from place `k` on, that crosses the cut of slot `t`.
 fn last_crossing(
-    ends: &[(u32, u32)],
-    n: usize,
-    cuts: &[bool],
+    instance: Instance<'_>,
+    packing: &Packing<'_>,
     t: usize,
     chain: &[usize],
     k: usize,
     len: usize,
 ) -> usize
-    requires graph { IsDigraph (with_ends n ends.now) }
-    requires row { t * n + n ≤ length cuts.now }
+    requires instance { IsInstance instance }
+    requires row { t * instance.n + instance.n ≤ length packing.now.cuts.now }
     requires some { k < len }
     requires room { len ≤ length chain.now }
-    requires edges { (i : ℕ) → k ≤ i → i < len → at chain.now i < length ends.now }
-    requires first { separates (cut_at cuts.now n t) (edge_at ends.now (at chain.now k)) ≡ true }
-    ensures { IsLast ends.now (cut_at cuts.now n) chain.now t k len result }
+    requires edges { (i : ℕ) → k ≤ i → i < len → at chain.now i < length instance.ends.now }
+    requires first { separates (cut_at packing.now.cuts.now instance.n t) (edge_at instance.ends.now (at chain.now k)) ≡ true }
+    ensures { IsLast instance.entry.ends.now (cut_at packing.now.cuts.now instance.entry.n) chain.now t k len result }
 {
+    let ends = instance.ends;
+    let n = instance.n as usize;
     let mut found = k;
     'chain: for j in k + 1..len {
         let x = chain[j];
-        if separates(cuts, n, t, ends[x]) {
+        if separates(packing.cuts, n, t, ends[x]) {
             found = j;
         }
     }
@@ -49,109 +50,74 @@ fn vacate(slot: &mut [usize], old: usize, m: usize)
 }
 
 // The edge `x` takes the free slot `t`, and leaves its own, which is the result.
-fn take_slot(
-    ends: &[(u32, u32)],
-    n: usize,
-    width: usize,
-    k: usize,
-    cuts: &mut [bool],
-    slot: &mut [usize],
-    place: &mut [usize],
-    t: usize,
-    x: usize,
-) -> usize
-    requires graph { IsDigraph (with_ends n ends.now) }
-    requires some { 0 < width }
-    requires rows { (k * width) * n ≤ length cuts.old }
-    requires state { IsState n width k ends.now (cut_at cuts.old n) slot.old place.old }
-    requires slot { t < k * width }
-    requires free { at slot.old t ≡ length ends.now }
-    requires edge { x < length ends.now }
-    requires crossing { separates (cut_at cuts.old n t) (edge_at ends.now x) ≡ true }
-    ensures state { IsState n width k ends.now (cut_at cuts.new n) slot.new place.new }
-    ensures result { result ≡ at place.old x }
-    ensures place { place.new ≡ slice_set place.old x t }
-    ensures others { KeepsOthers n (cut_at cuts.old n) (cut_at cuts.new n) t }
-    ensures free { result < k * width → at slot.new result ≡ length ends.now }
+fn take_slot(instance: Instance<'_>, packing: &mut Packing<'_>, t: usize, x: usize) -> usize
+    requires instance { IsInstance instance }
+    requires packing { IsPacking instance packing.old }
+    requires slot { t < instance.k * (instance.n - 1) }
+    requires free { at packing.old.slot.now t ≡ length instance.ends.now }
+    requires edge { x < length instance.ends.now }
+    requires crossing { separates (cut_at packing.old.cuts.now instance.n t) (edge_at instance.ends.now x) ≡ true }
+    ensures packing { IsPacking instance.entry packing.new }
+    ensures result { result ≡ at packing.old.place.now x }
+    ensures place { packing.new.place.now ≡ slice_set packing.old.place.now x t }
+    ensures others { KeepsOthers instance.entry.n (cut_at packing.old.cuts.now instance.entry.n) (cut_at packing.new.cuts.now instance.entry.n) t }
+    ensures free { result < instance.entry.k * (instance.entry.n - 1) → at packing.new.slot.now result ≡ length instance.entry.ends.now }
 {
+    let width = (instance.n - 1) as usize;
     let lo = t / width * width;
-    exchange(cuts, n, lo, lo + width, t, ends[x]);
-    let old = place[x];
-    slot[t] = x;
-    place[x] = t;
-    vacate(slot, old, ends.len());
+    let edge = instance.ends[x];
+    exchange(packing.cuts, instance.n as usize, lo, lo + width, t, edge);
+    let old = packing.place[x];
+    packing.slot[t] = x;
+    packing.place[x] = t;
+    vacate(packing.slot, old, instance.ends.len());
     old
 }
 
 // Along the chain each edge takes a slot that was left, until one comes that stood in none.
-fn insert(
-    ends: &[(u32, u32)],
-    n: usize,
-    width: usize,
-    k: usize,
-    cuts: &mut [bool],
-    slot: &mut [usize],
-    place: &mut [usize],
-    chain: &[usize],
-    len: usize,
-    t: usize,
-)
-    requires graph { IsDigraph (with_ends n ends.now) }
-    requires some { 0 < width }
-    requires rows { (k * width) * n ≤ length cuts.old }
-    requires state { IsState n width k ends.now (cut_at cuts.old n) slot.old place.old }
-    requires slot { t < k * width }
-    requires free { at slot.old t ≡ length ends.now }
-    requires chain { IsChain ends.now (cut_at cuts.old n) place.old (k * width) chain.now 0 len }
-    requires crossing { separates (cut_at cuts.old n t) (edge_at ends.now (at chain.now 0)) ≡ true }
-    ensures state { IsState n width k ends.now (cut_at cuts.new n) slot.new place.new }
-    ensures fewer { unplaced (k * width) place.new < unplaced (k * width) place.old }
+fn insert(instance: Instance<'_>, packing: &mut Packing<'_>, chain: &[usize], len: usize, t: usize)
+    requires instance { IsInstance instance }
+    requires packing { IsPacking instance packing.old }
+    requires slot { t < instance.k * (instance.n - 1) }
+    requires free { at packing.old.slot.now t ≡ length instance.ends.now }
+    requires chain { IsChain instance.ends.now (cut_at packing.old.cuts.now instance.n) packing.old.place.now (instance.k * (instance.n - 1)) chain.now 0 len }
+    requires crossing { separates (cut_at packing.old.cuts.now instance.n t) (edge_at instance.ends.now (at chain.now 0)) ≡ true }
+    ensures packing { IsPacking instance.entry packing.new }
+    ensures fewer { unplaced (instance.entry.k * (instance.entry.n - 1)) packing.new.place.now < unplaced (instance.entry.k * (instance.entry.n - 1)) packing.old.place.now }
 {
-    let total = slot.len();
+    let total = packing.slot.len();
     let mut t = t;
     let mut from = 0;
     'take: while t < total {
-        let i = last_crossing(ends, n, cuts, t, chain, from, len);
+        let i = last_crossing(instance, packing, t, chain, from, len);
         let x = chain[i];
-        t = take_slot(ends, n, width, k, cuts, slot, place, t, x);
+        t = take_slot(instance, packing, t, x);
         from = i + 1;
     }
 }
 
 // Puts edges in until the search finds no more.
 pub(crate) fn grow(
-    ends: &[(u32, u32)],
-    n: usize,
-    width: usize,
-    k: usize,
-    cuts: &mut [bool],
-    slot: &mut [usize],
-    place: &mut [usize],
-    mark: &mut [bool],
-    queue: &mut [usize],
-    from: &mut [usize],
-    level: &mut [usize],
+    instance: Instance<'_>,
+    packing: &mut Packing<'_>,
+    room: &mut Room<'_>,
     chain: &mut [usize],
 )
-    requires graph { IsDigraph (with_ends n ends.now) }
-    requires some { 0 < width }
-    requires rows { (k * width) * n ≤ length cuts.old }
-    requires state { IsState n width k ends.now (cut_at cuts.old n) slot.old place.old }
-    requires few { length ends.now < 2 ^ 32 }
-    requires places { HasPlaces (length ends.now) mark.old queue.old from.old level.old }
-    requires chain { length chain.old ≡ length ends.now }
-    ensures state { IsState n width k ends.now (cut_at cuts.new n) slot.new place.new }
-    ensures closed { IsClosed (k * width) ends.now (cut_at cuts.new n) slot.new place.new mark.new }
+    requires instance { IsInstance instance }
+    requires packing { IsPacking instance packing.old }
+    requires places { HasRoom (length instance.ends.now) room.old }
+    requires chain { length chain.old ≡ length instance.ends.now }
+    ensures packing { IsPacking instance.entry packing.new }
+    ensures places { HasRoom (length instance.entry.ends.now) room.new }
+    ensures closed { IsClosed (instance.entry.k * (instance.entry.n - 1)) instance.entry.ends.now (cut_at packing.new.cuts.now instance.entry.n) packing.new.slot.now packing.new.place.now room.new.mark.now }
 {
-    let total = slot.len();
-    let mut hit = search(ends, n, cuts, slot, place, mark, queue, from, level, 0);
+    let total = packing.slot.len();
+    let mut hit = search(instance, packing, room, 0);
     'more: while hit.slot < total {
-        let len = trace(
-            ends, n, cuts, place, total, mark, from, level, hit.edge, chain,
-        );
-        insert(ends, n, width, k, cuts, slot, place, chain, len, hit.slot);
+        let len = trace(instance, packing, room, hit, chain);
+        insert(instance, packing, chain, len, hit.slot);
         let first = chain[len - 1];
-        hit = search(ends, n, cuts, slot, place, mark, queue, from, level, first);
+        hit = search(instance, packing, room, first);
     }
 }
 

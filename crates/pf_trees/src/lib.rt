@@ -13,6 +13,7 @@ mod finding;
 mod grow;
 mod labels;
 pub mod laws;
+mod packing;
 mod search;
 #[cfg(test)]
 mod tests;
