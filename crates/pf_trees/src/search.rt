@@ -96,19 +96,22 @@ pub(crate) fn search(
     requires places { HasRoom (length instance.ends.now) room.old }
     ensures searched { IsSearched instance.entry packing.now room.new result }
 {
-    let ends = instance.ends;
     let n = instance.n as usize;
-    let m = ends.len();
-    let total = packing.slot.len();
+    let m = instance.ends.len();
+    // Borrowed once, so that the loop over the slots loads no pointer.
+    let cuts = &*packing.cuts;
+    let slot = &*packing.slot;
+    let total = slot.len();
     let mut put = start(total, packing.place, room, first);
     let mut taken = 0;
     'search: while taken < put {
         let x = room.queue[taken];
         taken += 1;
         let depth = room.level[x] + 1;
+        let edge = instance.ends[x];
         'slots: for t in 0..total {
-            if separates(packing.cuts, n, t, ends[x]) {
-                let y = packing.slot[t];
+            if separates(cuts, n, t, edge) {
+                let y = slot[t];
                 if y == m {
                     return Hit { edge: x, slot: t };
                 }
