@@ -17,7 +17,7 @@ use Rattle.pf_graph.specs.WeightedGraph.{WeightedGraph, digraph_of}
 use Rattle.pf_graph.specs.Labels.{parts, IsPartition}
 use Rattle.pf_graph.specs.Limits.{IsWithinLimits}
 use Rattle.pf_strength.specs.Strength.{StrengthAnswer, IsStrengthShape, CertifiesStrength}
-use Rattle.pf_strength.specs.Text.{split_line, splits_text, strength_text}
+use Rattle.pf_strength.specs.Text.{splits_text, strength_text}
 use Rattle.pf_strength.specs.Right.{IsRightStrength, IsCertifiedStrength}
 use Rattle.pf_strength.proofs.Certificate.{certificate_is_strength}
 use Rattle.pf_strength.proofs.PartitionLemmas.{label_high}
@@ -86,7 +86,7 @@ answer_lines answer =
 
 pub splits_text_is : (r : ℕ) (rows : List (List ℤ)) → splits_text r rows ≡ lines_text (split_fields r rows)
 splits_text_is r [] = refl
-splits_text_is r (row ∷ rows) = ap (λ (t : List ℕ). split_line r row ++ t) (splits_text_is (r + 1) rows)
+splits_text_is r (row ∷ rows) = ap (λ (t : List ℕ). row_line (codes "r") ((r + 1) ∷ []) row ++ t) (splits_text_is (r + 1) rows)
 
 seven : (a b c d e f g : List ℕ) → a ++ b ++ c ++ d ++ e ++ f ++ g ≡ a ++ (b ++ (c ++ (d ++ (e ++ (f ++ (g ++ []))))))
 seven a b c d e f g = simp (append_assoc, append-nil)

@@ -1,86 +1,49 @@
 -- The lines of a strength's text, one after the other.
-use Rattle.std.proofs.Common.{◌≡◌, ℕ, ◌+◌, ◌<◌, ◌^◌, List, [], ◌∷◌, ◌++◌, length, drop, get_or, add-one, refl, append_assoc, arith, ap, sym, subst, ◌∙◌}
-use Rattle.std.specs.Prelude.{ℤ, pos, negsuc, neg_ℤ, ◌<ℤ◌, codes, All}
-use Rattle.std.proofs.lemmas.Int.{ints}
+use Rattle.std.proofs.Common.{◌≡◌, ℕ, ◌<◌, ◌^◌, List, [], ◌∷◌, ◌++◌, length, get_or, refl, append_assoc, arith, ap, sym, subst, ◌∙◌}
+use Rattle.std.specs.Prelude.{ℤ, pos, codes, All}
 use Rattle.std.proofs.lemmas.List.{get_or_default}
-use Rattle.std.proofs.Math.Seq.{drop-cons}
 use Rattle.pf_model.specs.Fraction.{Fraction}
+use Rattle.pf_model.specs.Answer.{IsWithinSize}
 use Rattle.pf_frame.specs.Lending.{row_at}
 use Rattle.pf_frame.specs.Numbers.{IsSized}
 use Rattle.pf_text.specs.Spelling.{line, row_line, fraction_line, label_line}
-use Rattle.pf_lines.specs.Taking.{IsBetween, IsRow}
-use Rattle.pf_lines.proofs.ItemsTaken.{Items, Stand}
+use Rattle.pf_lines.specs.Taking.{IsFlowRow}
 use Rattle.pf_graph.specs.WeightedGraph.{WeightedGraph, digraph_of}
 use Rattle.pf_graph.specs.Labels.{parts}
 use Rattle.pf_strength.specs.Strength.{StrengthAnswer, FitsGraph}
-use Rattle.pf_strength.specs.Text.{partition_text, split_line, splits_text, strength_text}
+use Rattle.pf_strength.specs.Text.{partition_text, splits_text, strength_text}
 use Rattle.pf_strength.proofs.Whole.{answer_of}
 
 -- ---- numbers on edges
 
-abbrev pub least : ℤ
-least = negsuc 20282409603651670423947251286014
-
-abbrev pub greatest : ℤ
-greatest = pos 20282409603651670423947251286015
-
-record IsOfSize (n : ℤ) : Type 0 where
-  low : neg_ℤ (pos (2 ^ 104)) <ℤ n
-  high : n <ℤ pos (2 ^ 104)
-
-between : (n : ℤ) → IsOfSize n → IsBetween (negsuc 20282409603651670423947251286014) (pos 20282409603651670423947251286015) n
-between n size = let low = size.low in let high = size.high in record { low = omega (arith, ints, low); high = omega (arith, ints, high) }
-
-within : (n : ℤ) → IsBetween (negsuc 20282409603651670423947251286014) (pos 20282409603651670423947251286015) n → IsOfSize n
-within n bounds = let low = bounds.low in let high = bounds.high in record { low = omega (arith, ints, low); high = omega (arith, ints, high) }
-
-pub row_of_sized : (g : WeightedGraph) (numbers : List ℤ) (width : ℕ) → width ≡ length g.ends → IsSized (digraph_of g) numbers →
-    IsRow width (negsuc 20282409603651670423947251286014) (pos 20282409603651670423947251286015) numbers
+pub row_of_sized : (g : WeightedGraph) (numbers : List ℤ) (width : ℕ) → width ≡ length g.ends → IsSized (digraph_of g) numbers → IsFlowRow width numbers
 row_of_sized g numbers width e s =
     let full : length numbers ≡ length g.ends = s.full in
     record {
       full = full ∙ sym e;
       each = λ i d low.
-          let P : ℤ → Type 0 = λ z. IsBetween (negsuc 20282409603651670423947251286014) (pos 20282409603651670423947251286015) z in
+          let P : ℤ → Type 0 = λ z. IsWithinSize (2 ^ 104) z in
           let same : get_or numbers i (pos 0) ≡ get_or numbers i d = get_or_default numbers i (pos 0) d low in
           let inside : i < length g.ends = omega (arith, low, full) in
-          subst P same (between (get_or numbers i (pos 0)) (record { low = s.low i inside; high = s.high i inside }));
+          subst P same (record { low = s.low i inside; high = s.high i inside });
     }
 
-pub sized_of_row : (g : WeightedGraph) (numbers : List ℤ) (width : ℕ) → width ≡ length g.ends →
-    IsRow width (negsuc 20282409603651670423947251286014) (pos 20282409603651670423947251286015) numbers → IsSized (digraph_of g) numbers
+pub sized_of_row : (g : WeightedGraph) (numbers : List ℤ) (width : ℕ) → width ≡ length g.ends → IsFlowRow width numbers → IsSized (digraph_of g) numbers
 sized_of_row g numbers width e row =
     let full = row.full in
     let inside : (i : ℕ) → i < length g.ends → i < length numbers = λ i low. omega (arith, low, full, e) in
     record {
       full = full ∙ e;
-      low = λ i low. (within (get_or numbers i (pos 0)) (row.each i (pos 0) (inside i low))).low;
-      high = λ i low. (within (get_or numbers i (pos 0)) (row.each i (pos 0) (inside i low))).high;
+      low = λ i low. (row.each i (pos 0) (inside i low)).low;
+      high = λ i low. (row.each i (pos 0) (inside i low)).high;
     }
 
--- ---- the lines of splits
+-- the same of splits
+pub rows_of_sized : (g : WeightedGraph) (rows : List (List ℤ)) (width : ℕ) → width ≡ length g.ends → All (IsSized (digraph_of g)) rows → All (IsFlowRow width) rows
+rows_of_sized g rows width e each = λ r d low. row_of_sized g (get_or rows r d) width e (each r d low)
 
--- splits, each on a line with the number of its root
-abbrev pub split_items : WeightedGraph → Items (List ℤ)
-split_items g = record {
-  text = λ r rows. splits_text r rows;
-  item = λ r row. split_line r row;
-  none = λ r. refl;
-  more = λ r row rows. refl;
-  Is = IsSized (digraph_of g);
-  MayFollow = λ rest. Unit {0};
-  follows = λ r row rest. tt;
-}
-
-pub splits_stand : (g : WeightedGraph) (count : ℕ) (old : List ℕ) (rows : List (List ℤ)) (rest : List ℕ) → length rows ≡ count → All (IsSized (digraph_of g)) rows →
-    old ≡ splits_text 0 rows ++ rest → Stand (split_items g) count old rows rest
-splits_stand g count old rows rest full each there = record { full = full; each = each; behind = tt; text = there }
-
--- the split of the root r, and those after it
-pub splits_text_at : (r : ℕ) (rows : List (List ℤ)) → r < length rows → splits_text r (drop r rows) ≡ split_line r (row_at rows r) ++ splits_text (r + 1) (drop (r + 1) rows)
-splits_text_at r rows low =
-    let next : drop r rows ≡ get_or rows r [] ∷ drop (r + 1) rows = rw add-one (drop-cons rows r [] low) in
-    ap (splits_text r) next
+pub sized_of_rows : (g : WeightedGraph) (rows : List (List ℤ)) (width : ℕ) → width ≡ length g.ends → All (IsFlowRow width) rows → All (IsSized (digraph_of g)) rows
+sized_of_rows g rows width e each = λ r d low. sized_of_row g (get_or rows r d) width e (each r d low)
 
 -- ---- the whole text
 

@@ -1,6 +1,7 @@
 -- The text of a strength.
 use Rattle.std.specs.Prelude.{ℕ, ◌+◌, ℤ, List, [], ◌∷◌, ◌++◌, codes}
 use Rattle.pf_text.specs.Spelling.{line, row_line, fraction_line, label_line}
+use Rattle.pf_lines.specs.Taking.{rows_text}
 use Rattle.pf_graph.specs.Labels.{parts}
 use Rattle.pf_strength.specs.Strength.{StrengthAnswer}
 
@@ -8,14 +9,9 @@ use Rattle.pf_strength.specs.Strength.{StrengthAnswer}
 abbrev pub partition_text : List ℕ → List ℕ
 partition_text labels = row_line (codes "k") (parts labels ∷ []) [] ++ label_line (codes "s") [] labels
 
--- the split of the root r; texts number the roots from 1
-abbrev pub split_line : ℕ → List ℤ → List ℕ
-split_line r row = row_line (codes "r") ((r + 1) ∷ []) row
-
--- the splits, from that of the root r on
+-- the splits, from that of the root r on; texts number the roots from 1
 abbrev pub splits_text : ℕ → List (List ℤ) → List ℕ
-splits_text r [] = []
-splits_text r (row ∷ rows) = split_line r row ++ splits_text (r + 1) rows
+splits_text r rows = rows_text (codes "r") (r + 1) rows
 
 -- the text of an answer: the level, the partition, the vector and the splits
 unfoldable pub strength_text : StrengthAnswer → List ℕ

@@ -8,13 +8,8 @@ ghost use Rattle.pf_strength.specs.Text.{splits_text};
 
 use pf_frame::{FlowTable, Numbers};
 use pf_graph::Graph;
-use pf_lines::{AnswerBad, Exact, take_row};
+use pf_lines::{AnswerBad, Exact, take_flow_row, take_flow_rows};
 use std::alloc::Global;
-
-// The least and the greatest number on an edge.
-const LEAST: i128 = 1 - (1 << 104);
-
-const GREATEST: i128 = (1 << 104) - 1;
 
 /// A line of one number per edge, each of a size below `2^104`.
 pub fn take_edge_row(
@@ -30,7 +25,7 @@ pub fn take_edge_row(
         → text.old ≡ row_line word.now indices.now numbers ++ rest → Takes numbers rest result text.new }
 {
     let width = graph.edges() as usize;
-    let numbers = take_row(alloc, word, indices, width, LEAST, GREATEST, text)?;
+    let numbers = take_flow_row(alloc, word, indices, width, text)?;
     Ok(numbers)
 }
 
@@ -47,10 +42,7 @@ pub(crate) fn take_splits(
     ensures found { (rows : List (List ℤ)) (rest : List ℕ) → length rows ≡ count → All (IsSized (digraph_of graph.now)) rows
         → text.old ≡ splits_text 0 rows ++ rest → Takes rows rest result text.new }
 {
-    let mut splits = FlowTable::new(alloc);
-    'roots: for r in 0..count {
-        let row = take_edge_row(alloc, graph, b"r", &[r + 1], text)?;
-        splits.push(row)?;
-    }
+    let width = graph.edges() as usize;
+    let splits = take_flow_rows(alloc, b"r", 1, width, count, text)?;
     Ok(splits)
 }

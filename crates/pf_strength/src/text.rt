@@ -1,5 +1,5 @@
 // Writing of a strength, and reading it back.
-ghost use Rattle.std.specs.Prelude.{◌≡◌, ◌≢◌, ◌↔◌, ◌++◌, [], ℕ, ℤ, List, IsTrue, IfOk, Err, false};
+ghost use Rattle.std.specs.Prelude.{◌≡◌, ◌≢◌, ◌++◌, ℕ, ℤ, List, IfOk, Err, false};
 ghost use Rattle.pf_io.specs.Printing.{Adds, is_spent};
 ghost use Rattle.pf_lines.specs.Taking.{Takes};
 ghost use Rattle.pf_strength.specs.Strength.{StrengthAnswer, IsStrengthShape};
@@ -11,7 +11,7 @@ use crate::partition_lines::take_counted_partition;
 use pf_frame::FlowTable;
 use pf_graph::{Graph, Partition};
 use pf_io::{Failed, Printer, Sink, print_fraction_row, print_labels, print_row};
-use pf_lines::{AnswerBad, Exact, take_fraction_row, take_word};
+use pf_lines::{AnswerBad, Exact, take_end, take_fraction_row, take_word};
 use pf_rat::Rat;
 use std::alloc::Global;
 
@@ -73,13 +73,6 @@ fn take_strength(alloc: Global, graph: &Graph, text: &mut Exact<'_>) -> Result<S
     Ok(Strength::new(level, parts, vector, splits))
 }
 
-// Whether nothing is left.
-fn is_at_end(text: &Exact<'_>) -> bool
-    ensures { IsTrue result ↔ (text.now ≡ []) }
-{
-    text.rest().is_empty()
-}
-
 /// The answer of the right shape for the graph whose text these bytes are: there is at most one. Numbers and words have one
 /// spelling there, and no line is passed over. `NotText` comes exactly where there is no such answer.
 pub fn read_strength(alloc: Global, graph: &Graph, text: &[u8]) -> Result<Strength, AnswerBad>
@@ -89,8 +82,6 @@ pub fn read_strength(alloc: Global, graph: &Graph, text: &[u8]) -> Result<Streng
 {
     let mut rest = Exact::new(text);
     let answer = take_strength(alloc, graph, &mut rest)?;
-    if !is_at_end(&rest) {
-        return Err(AnswerBad::NotText);
-    }
+    take_end(&rest)?;
     Ok(answer)
 }
