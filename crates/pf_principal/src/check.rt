@@ -43,41 +43,48 @@ fn rises(levels: &[Rat], j: usize) -> bool
     }
 }
 
-// Whether the forest condition holds with both partitions, for the splits from row `first` on.
+// What an answer says at one level: the vector, indexed by edges, and the table of all splits, in which those of this level begin at
+// row `first`.
+#[derive(Clone, Copy)]
+struct AtLevel<'a> {
+    level: &'a Rat,
+    vector: &'a [i128],
+    splits: &'a FlowTable,
+    first: usize,
+}
+
+// Whether the forest condition holds at the level with both partitions.
 fn meets_both(
     graph: &Graph,
-    level: &Rat,
-    vector: &[i128],
-    splits: &FlowTable,
-    first: usize,
+    at: AtLevel<'_>,
     left: &Partition,
     right: &Partition,
     scratch: &mut Scratch,
 ) -> bool
-    requires vector { length vector.now ≡ length graph.now.ends }
-    requires rows { first + graph.now.nodes ≤ length splits.now }
-    requires full { (r : ℕ) → r < graph.now.nodes → length (row_at splits.now (first + r)) ≡ length graph.now.ends }
+    requires vector { length at.vector.now ≡ length graph.now.ends }
+    requires rows { at.first + graph.now.nodes ≤ length at.splits.now }
+    requires full { (r : ℕ) → r < graph.now.nodes → length (row_at at.splits.now (at.first + r)) ≡ length graph.now.ends }
     requires left { length left.now ≡ graph.now.nodes }
     requires right { length right.now ≡ graph.now.nodes }
     requires room { Serves scratch.old graph.now.nodes (length graph.now.ends) }
-    ensures exact { IsTrue result ↔ MeetsBoth graph.now level.now vector.now splits.now first left.now right.now }
+    ensures exact { IsTrue result ↔ MeetsBoth graph.now at.entry.level.now at.entry.vector.now at.entry.splits.now at.entry.first left.now right.now }
     ensures places { KeepsPlaces scratch.old scratch.new }
 {
-    let q = level.q();
+    let q = at.level.q();
     prove!(q >= 1);
-    if level.p() < 0 {
+    if at.level.p() < 0 {
         return false;
     }
-    if !is_in_range(graph, level, vector) {
+    if !is_in_range(graph, at.level, at.vector) {
         return false;
     }
-    if !has_total(graph, level, vector, left) {
+    if !has_total(graph, at.level, at.vector, left) {
         return false;
     }
-    if !has_total(graph, level, vector, right) {
+    if !has_total(graph, at.level, at.vector, right) {
         return false;
     }
-    are_splits(graph, level, vector, splits, first, scratch)
+    are_splits(graph, at.level, at.vector, at.splits, at.first, scratch)
 }
 
 // Whether the first partition has fewer parts.
@@ -110,9 +117,13 @@ fn meets_step(graph: &Graph, answer: &Principal, j: usize, scratch: &mut Scratch
     }
     let vector = answer.vectors().row(j);
     let first = j * nodes;
-    meets_both(
-        graph, &levels[j], vector, splits, first, left, right, scratch,
-    )
+    let at = AtLevel {
+        level: &levels[j],
+        vector,
+        splits,
+        first,
+    };
+    meets_both(graph, at, left, right, scratch)
 }
 
 // Whether no weight crosses the first partition, and the last one has one part per vertex.

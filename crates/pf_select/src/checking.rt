@@ -160,31 +160,39 @@ fn is_rest(set: &[bool], marks: &[bool]) -> bool
     true
 }
 
+// What an answer says at one price: the charges there, indexed by needs, and the selections up to it and from it on, indexed by parts.
+#[derive(Clone, Copy)]
+struct AtPrice<'a> {
+    price: &'a Rat,
+    charges: &'a [i128],
+    before: &'a [bool],
+    after: &'a [bool],
+}
+
 // Whether the charges certify the selection up to the price. The other four are working room, with at least one place per part or
 // product.
 fn certifies_price(
     catalogue: &Catalogue,
-    price: &Rat,
-    charges: &[i128],
-    set: &[bool],
+    at: AtPrice<'_>,
     on_parts: &mut [i128],
     by_products: &mut [i128],
     parts: &mut [bool],
     products: &mut [bool],
 ) -> bool
-    requires charges { IsChargesShape catalogue.now charges.now }
-    requires set { length set.now ≡ length catalogue.now.costs }
+    requires charges { IsChargesShape catalogue.now at.charges.now }
+    requires before { length at.before.now ≡ length catalogue.now.costs }
     requires on_parts { length catalogue.now.costs ≤ length on_parts.old }
     requires by_products { length catalogue.now.gains ≤ length by_products.old }
     requires parts { length catalogue.now.costs ≤ length parts.old }
     requires products { length catalogue.now.gains ≤ length products.old }
-    ensures { IsTrue result ↔ CertifiesPrice catalogue.now price.now charges.now set.now }
+    ensures { IsTrue result ↔ CertifiesPrice catalogue.now at.entry.price.now at.entry.charges.now at.entry.before.now }
 {
+    let charges = at.charges;
     if !are_nonnegative(charges, charges.len()) {
         return false;
     }
-    write_slacks(catalogue, price, charges, on_parts, by_products);
-    if !are_nonnegative(on_parts, set.len()) {
+    write_slacks(catalogue, at.price, charges, on_parts, by_products);
+    if !are_nonnegative(on_parts, at.before.len()) {
         return false;
     }
     let count = catalogue.products() as usize;
@@ -195,25 +203,19 @@ fn certifies_price(
     if !are_paid(by_products, products, count) {
         return false;
     }
-    is_rest(set, parts)
+    is_rest(at.before, parts)
 }
 
-// Whether two selections are worth the same at the price.
-fn is_equal_worth(
-    catalogue: &Catalogue,
-    price: &Rat,
-    first: &[bool],
-    second: &[bool],
-    products: &mut [bool],
-) -> bool
-    requires first { length first.now ≡ length catalogue.now.costs }
-    requires second { length second.now ≡ length catalogue.now.costs }
+// Whether the two selections are worth the same at the price.
+fn is_equal_worth(catalogue: &Catalogue, at: AtPrice<'_>, products: &mut [bool]) -> bool
+    requires before { length at.before.now ≡ length catalogue.now.costs }
+    requires after { length at.after.now ≡ length catalogue.now.costs }
     requires products { length catalogue.now.gains ≤ length products.old }
-    ensures { IsTrue result ↔ (worth catalogue.now price.now first.now ≡ worth catalogue.now price.now second.now) }
+    ensures { IsTrue result ↔ (worth catalogue.now at.entry.price.now at.entry.before.now ≡ worth catalogue.now at.entry.price.now at.entry.after.now) }
 {
-    let before = worth(catalogue, price, first, products);
-    let behind = worth(catalogue, price, second, products);
-    before == behind
+    let before = worth(catalogue, at.price, at.before, products);
+    let after = worth(catalogue, at.price, at.after, products);
+    before == after
 }
 
 // Whether the charges at each price certify the selection up to it, and the next one is worth the same there.
@@ -235,21 +237,19 @@ fn certifies_changes(
     let prices = answer.prices().get();
     'prices: for j in 0..prices.len() {
         let price = &prices[j];
-        let set = answer.selection(j);
         let charges = answer.charges_at(j);
-        if !certifies_price(
-            catalogue,
+        let before = answer.selection(j);
+        let after = answer.selection(j + 1);
+        let at = AtPrice {
             price,
             charges,
-            set,
-            on_parts,
-            by_products,
-            parts,
-            products,
-        ) {
+            before,
+            after,
+        };
+        if !certifies_price(catalogue, at, on_parts, by_products, parts, products) {
             return false;
         }
-        if !is_equal_worth(catalogue, price, set, answer.selection(j + 1), products) {
+        if !is_equal_worth(catalogue, at, products) {
             return false;
         }
     }

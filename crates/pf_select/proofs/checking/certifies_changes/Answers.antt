@@ -16,7 +16,7 @@ prices-preserved c =
       parts = c.certifies_price.auto.parts ∙ inv.parts;
       products = c.is_equal_worth.auto.products ∙ c.certifies_price.auto.products ∙ inv.products;
       each = below_more (CertifiesChange p answer.prices answer.selections answer.charges) c.prices.j inv.each
-          (change_here p answer c.prices.j c.index-prices-j.result c.charges_at-charges.result.now c.selection-set.result.now c.selection.result.now
-          x c.charges_at-charges.ensures c.selection-set.ensures c.selection.ensures (c.if-not-certifies_price.ensures.0 refl)
+          (change_here p answer c.prices.j c.index-prices-j.result c.charges_at-charges.result.now c.selection-before.result.now c.selection-after.result.now
+          x c.charges_at-charges.ensures c.selection-before.ensures c.selection-after.ensures (c.if-not-certifies_price.ensures.0 refl)
           (c.if-not-is_equal_worth.ensures.0 refl));
     }
