@@ -3,15 +3,14 @@ use Rattle.std.proofs.Common.{◌≡◌, ℕ, ◌+◌, ◌≤◌, List, [], ◌�
 use Rattle.std.specs.Prelude.{ℤ, codes, map}
 use Rattle.std.specs.List.{join_with_byte}
 use Rattle.std.specs.Fmt.{decimal}
-use Rattle.std.proofs.lemmas.List.{append-nil, length-append}
+use Rattle.std.proofs.lemmas.List.{length-append}
 use Rattle.pf_text.specs.Spelling.{line, head, row_line}
 use Rattle.pf_graph.specs.WeightedGraph.{WeightedGraph}
-use Rattle.pf_principal.specs.Principal.{PrincipalAnswer, FitsGraph}
-use Rattle.pf_principal.specs.Text.{step_text, level_line, part_line, steps_text, levels_text, levels_rows, principal_text}
+use Rattle.pf_principal.specs.Text.{step_text, level_line, part_line, steps_text, levels_text, levels_rows}
 use Rattle.pf_principal.specs.Reading.{parts_text}
 use Rattle.pf_principal.specs.declared.steps.Step.{Step}
 use Rattle.pf_principal.specs.declared.text.Parts.{Parts}
-use Rattle.pf_principal.proofs.Shapes.{parts_with, parts_of, text_of_parts}
+use Rattle.pf_principal.proofs.Shapes.{parts_with}
 
 -- what stands after the tables, after the steps, after the first partition, and after the count
 abbrev pub last_lines : List ℕ → List ℕ
@@ -74,7 +73,3 @@ steps_behind g first steps vectors splits rest =
 pub same_parts : (first : List ℕ) (steps : List Step) (vectors splits : List (List ℤ)) (parts : Parts) → first ≡ parts.first → steps ≡ parts.steps → vectors ≡ parts.vectors → splits ≡ parts.splits →
     parts_with first steps vectors splits ≡ parts
 same_parts first steps vectors splits parts a b c d = rw (a, b, c, d) refl
-
--- the text of an answer is that of its parts
-pub nothing_behind : (g : WeightedGraph) (text : List ℕ) (a : PrincipalAnswer) → FitsGraph g a → text ≡ principal_text g a → text ≡ parts_text g (parts_of g a) ++ []
-nothing_behind g text a fits e = e ∙ sym (text_of_parts g a fits) ∙ sym (append-nil (parts_text g (parts_of g a)))

@@ -1,5 +1,5 @@
 // Writing of a principal partition, and reading it back.
-ghost use Rattle.std.specs.Prelude.{◌≡◌, ◌≢◌, ◌↔◌, ◌+◌, ◌*◌, ◌≤◌, ◌++◌, [], ℕ, List, length, take, drop, IsTrue, IfOk, Err, false};
+ghost use Rattle.std.specs.Prelude.{◌≡◌, ◌≢◌, ◌+◌, ◌*◌, ◌≤◌, ◌++◌, ℕ, List, length, take, drop, IfOk, Err, false};
 ghost use Rattle.pf_io.specs.Printing.{Adds, is_spent};
 ghost use Rattle.pf_lines.specs.Taking.{Takes};
 ghost use Rattle.pf_graph.specs.Best.{partition_at};
@@ -15,7 +15,7 @@ use crate::steps::{Steps, have_values, step_levels, step_partitions, take_steps}
 use pf_frame::FlowTable;
 use pf_graph::{Graph, Partition};
 use pf_io::{Failed, Printer, Sink, print_fraction_row, print_labels, print_row};
-use pf_lines::{AnswerBad, Exact, take_count, take_word};
+use pf_lines::{AnswerBad, Exact, take_count, take_end, take_word};
 use pf_rat::Rat;
 use pf_strength::take_partition;
 use std::alloc::Global;
@@ -192,13 +192,6 @@ fn take_parts(alloc: Global, graph: &Graph, text: &mut Exact<'_>) -> Result<Part
     })
 }
 
-// Whether nothing is left.
-fn is_at_end(text: &Exact<'_>) -> bool
-    ensures { IsTrue result ↔ (text.now ≡ []) }
-{
-    text.rest().is_empty()
-}
-
 /// The answer of the right shape for the graph whose text these bytes are: there is at most one. Numbers and words have one
 /// spelling there, and no line is passed over. `NotText` comes exactly where there is no such answer.
 pub fn read_principal(alloc: Global, graph: &Graph, text: &[u8]) -> Result<Principal, AnswerBad>
@@ -215,9 +208,7 @@ pub fn read_principal(alloc: Global, graph: &Graph, text: &[u8]) -> Result<Princ
         vectors,
         splits,
     } = take_parts(alloc, graph, &mut rest)?;
-    if !is_at_end(&rest) {
-        return Err(AnswerBad::NotText);
-    }
+    take_end(&rest)?;
     if !have_values(graph, &first, steps.get()) {
         return Err(AnswerBad::NotText);
     }
