@@ -11,16 +11,9 @@ use Rattle.pf_model.proofs.Augment.{sum_where_set}
 use Rattle.pf_frame.specs.Numbers.{IsBounded}
 use Rattle.pf_frame.proofs.Balances.{raised, raised_length}
 use Rattle.pf_carry.specs.Trimming.{IsSummed, HasNoDeficit, IsLowered, less_at}
+use Rattle.pf_model.proofs.Facts.{sum_high, sum_low}
 
 -- ---- bounds on the sums
-
-sum_low : (test : Bool) (x a : ℤ) → pos 0 ≤ℤ x → pos 0 ≤ℤ a → pos 0 ≤ℤ (cond test x (pos 0) +ℤ a)
-sum_low true x a h k = omega (arith, ints)
-sum_low false x a h k = omega (arith, ints)
-
-sum_high : (test : Bool) (n : ℕ) (x a : ℤ) → pos 0 ≤ℤ x → x <ℤ pos (2 ^ 104) → a ≤ℤ pos (n * 2 ^ 104) → (cond test x (pos 0) +ℤ a) ≤ℤ pos (suc n * 2 ^ 104)
-sum_high true n x a l h k = omega (arith, ints)
-sum_high false n x a l h k = omega (arith, ints)
 
 pub record IsSumBelow (n : ℕ) (x : ℤ) : Type 0 where
   pub low : pos 0 ≤ℤ x

@@ -1,8 +1,8 @@
 -- Numbers that are written in another unit, arc by arc, beside the sums of them.
-use Rattle.std.proofs.Common.{◌≡◌, ◌≢◌, ℕ, zero, suc, ◌+◌, ◌<◌, ◌≤◌, List, [], ◌∷◌, length, get_or, set, replicate, refl, arith, ap, sym, ◌∙◌, below_more}
+use Rattle.std.proofs.Common.{◌≡◌, ℕ, zero, suc, ◌+◌, ◌<◌, ◌≤◌, List, [], ◌∷◌, length, get_or, set, replicate, refl, arith, ap, sym, ◌∙◌, below_more}
 use Rattle.std.specs.Prelude.{ℤ, ◌+ℤ◌, ◌-ℤ◌, ◌≤ℤ◌, pos}
 use Rattle.std.proofs.lemmas.Int.{ints}
-use Rattle.std.proofs.lemmas.List.{length-set, get_or-set_same, get_or-set_other, ext_get_or}
+use Rattle.std.proofs.lemmas.List.{length-set, ext_get_or}
 use Rattle.pf_model.specs.Cut.{at_arc}
 use Rattle.pf_model.specs.Digraph.{Digraph}
 use Rattle.pf_frame.specs.Numbers.{IsBounded}
@@ -10,6 +10,7 @@ use Rattle.pf_frame.proofs.Balances.{HasBalances, balances_start, balances_more,
 use Rattle.pf_carry.specs.Carry.{IsUnit, IsCarriable, carried, floored}
 use Rattle.pf_carry.specs.Trimming.{IsSummed}
 use Rattle.pf_carry.proofs.Floors.{carried_low, carried_high}
+use Rattle.pf_model.proofs.Facts.{set_here, set_there}
 
 floored_length : (from to : ℤ) (caps flow : List ℤ) → length caps ≡ length flow → length (floored from to caps flow) ≡ length flow
 floored_length from to [] [] e = refl
@@ -42,12 +43,6 @@ floored_bounded g from to caps flow u w b c = record {
       let cap = b.high i h in
       omega (arith, ints, most, cap);
 }
-
-set_here : (now after : List ℤ) (i : ℕ) (x : ℤ) → after ≡ set now i x → i < length now → at_arc after i ≡ x
-set_here now after i x e low = rw (e, get_or-set_same) refl
-
-set_there : (now after : List ℤ) (i k : ℕ) (x : ℤ) → after ≡ set now i x → k ≢ i → at_arc after k ≡ at_arc now k
-set_there now after i k x e other = let ne : k ≢ i = other in rw (e, get_or-set_other) refl
 
 -- the numbers before an index are as wanted, with the sums of them, and those from it on as they were
 pub record IsScaled (g : Digraph) (wanted old flow sums : List ℤ) (i : ℕ) : Type 0 where

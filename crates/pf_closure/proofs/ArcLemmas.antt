@@ -1,11 +1,11 @@
 -- The arcs of the network, one item or one need after the other.
 use Rattle.std.proofs.Common.{◌≡◌, ℕ, zero, suc, ◌+◌, ◌<◌, List, [], ◌∷◌, ◌++◌, length, get_or, take, map, refl, arith, ap, sym, ◌∙◌, add-one}
-use Rattle.std.specs.Prelude.{ℤ, pos}
-use Rattle.std.proofs.lemmas.Int.{ints}
+use Rattle.std.specs.Prelude.{ℤ}
 use Rattle.std.proofs.lemmas.List.{length-map}
 use Rattle.pf_model.specs.declared.AffineArc.{AffineArc}
 use Rattle.pf_model.specs.Cut.{at_arc}
 use Rattle.pf_closure.specs.Reduction.{item_arcs, source_arc, sink_arc, need_arc}
+use Rattle.pf_model.proofs.Facts.{one_more, two_more}
 
 pub item_arcs_suc : (sink j k : ℕ) (costs weights : List ℤ) → length weights ≡ length costs → k < length costs →
     item_arcs sink j (take (suc k) costs) (take (suc k) weights)
@@ -27,14 +27,6 @@ pub need_arcs_suc : (needs : List (ℕ × ℕ)) (k : ℕ) → k < length needs �
 need_arcs_suc [] k low = absurd (omega arith)
 need_arcs_suc (need ∷ needs) zero low = refl
 need_arcs_suc (need ∷ needs) (suc k) low = ap (λ l. need_arc need ∷ l) (need_arcs_suc needs k (omega arith))
-
-two_more : (xs : List AffineArc) (a b : AffineArc) → (xs ++ (a ∷ [])) ++ (b ∷ []) ≡ xs ++ (a ∷ (b ∷ []))
-two_more [] a b = refl
-two_more (x ∷ xs) a b = ap (λ l. x ∷ l) (two_more xs a b)
-
-one_more : (xs ys : List AffineArc) (a : AffineArc) → (xs ++ ys) ++ (a ∷ []) ≡ xs ++ (ys ++ (a ∷ []))
-one_more [] ys a = refl
-one_more (x ∷ xs) ys a = ap (λ l. x ∷ l) (one_more xs ys a)
 
 pub pushed_item : (sink k i j : ℕ) (costs weights : List ℤ) (old mid new : List AffineArc) (a b : AffineArc) (c w v : ℤ) → length weights ≡ length costs →
     k < length costs → i ≡ k → j ≡ k → c ≡ at_arc costs k → w ≡ at_arc weights k → v ≡ at_arc weights k →

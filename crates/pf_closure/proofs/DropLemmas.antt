@@ -1,8 +1,7 @@
 -- Steps of the search for the dropped items.
-use Rattle.std.proofs.Common.{◌≡◌, ◌≢◌, ℕ, ◌<◌, List, length, set, refl, Bool, not, arith, ap, ◌∙◌}
+use Rattle.std.proofs.Common.{◌≡◌, ℕ, ◌<◌, List, length, set, refl, Bool, not, arith, ap, ◌∙◌}
 use Rattle.std.specs.Prelude.{ℤ, ◌+ℤ◌, ◌-ℤ◌, ◌*ℤ◌, ◌≤ℤ◌, pos}
 use Rattle.std.proofs.lemmas.Int.{ints}
-use Rattle.std.proofs.lemmas.List.{get_or-set_same, get_or-set_other}
 use Rattle.pf_model.specs.Cut.{has, at_arc}
 use Rattle.pf_model.specs.Fraction.{Fraction, IsParameter}
 use Rattle.pf_model.specs.Flow.{flow_value}
@@ -34,13 +33,6 @@ dropped_by p x routing slacks count start marks same s b m = record {
       let e = s.each v low in
       keeps.strict v low (omega (arith, ints, more, e)));
 }
-
--- one slack more
-pub at_raised : (sums sums' : List ℤ) (i : ℕ) (y : ℤ) → i < length sums → sums' ≡ set sums i y → at_arc sums' i ≡ y
-at_raised sums sums' i y low e = rw (e, get_or-set_same) refl
-
-pub beside_raised : (sums sums' : List ℤ) (i v : ℕ) (y : ℤ) → v ≢ i → sums' ≡ set sums i y → at_arc sums' v ≡ at_arc sums v
-beside_raised sums sums' i v y ne e = rw (e, get_or-set_other) refl
 
 pub slack_here : (p : ClosureProblem) (x : Fraction) (routing : List ℤ) (i : ℕ) (s s' more cost weight : ℤ) → cost ≡ at_arc p.costs i → weight ≡ at_arc p.weights i →
     more ≡ (x.q *ℤ cost) -ℤ (x.p *ℤ weight) → s ≡ flow_value p.needs routing i → s' ≡ s +ℤ more → s' ≡ reduced_cost p x i -ℤ net_inflow p routing i

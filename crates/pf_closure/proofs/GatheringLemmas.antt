@@ -10,7 +10,7 @@ use Rattle.pf_lines.specs.Gathering.{ObeysRules}
 use Rattle.pf_closure.specs.Problem.{ClosureProblem}
 use Rattle.pf_closure.specs.Refused.{IsRefusedBy}
 use Rattle.pf_closure.specs.Text.{all_given, problem_by}
-use Rattle.pf_closure.proofs.ItemSums.{take_whole}
+use Rattle.pf_model.proofs.Sums.{take_whole}
 
 -- the items of the first places
 pub record AreGathered (slots : List (Option (ℤ × ℤ))) (i : ℕ) (costs weights : List ℤ) : Type 0 where

@@ -1,10 +1,9 @@
 -- A least cut crosses no arc of a need.
-use Rattle.std.proofs.Common.{◌≡◌, ℕ, zero, suc, ◌*◌, ◌^◌, ◌<◌, ◌≤◌, List, [], ◌∷◌, ◌++◌, length, get_or, take, replicate, refl, Bool, true, false, cond, arith, ap, sym, ◌∙◌, inl, inr}
+use Rattle.std.proofs.Common.{◌≡◌, ℕ, zero, suc, ◌*◌, ◌^◌, ◌<◌, ◌≤◌, List, [], ◌∷◌, length, get_or, replicate, refl, Bool, true, false, cond, arith, ap, sym, ◌∙◌, inl, inr}
 use Rattle.std.specs.Prelude.{◌⊎◌, ℤ, ◌+ℤ◌, ◌-ℤ◌, ◌*ℤ◌, ◌≤ℤ◌, ◌<ℤ◌, pos, neg_ℤ, map}
 use Rattle.std.proofs.lemmas.Int.{ints, by_lt_z}
 use Rattle.std.proofs.lemmas.Bool.{cases_Bool, cases_eq, both_ways}
 use Rattle.std.proofs.lemmas.List.{length-replicate}
-use Rattle.std.proofs.lemmas.Grind.{common_steps}
 use Rattle.pf_model.specs.Fraction.{Fraction}
 use Rattle.pf_model.specs.Cut.{has, at_arc, leaves, capacity, IsCut, IsLeast, IsSmallestLeast}
 use Rattle.pf_model.specs.Network.{IsNetworkCut, IsInInterval, ends_of, network_at, capacity_at}
@@ -14,14 +13,8 @@ use Rattle.pf_model.proofs.Balance.{inside}
 use Rattle.pf_closure.specs.Problem.{ClosureProblem, IsClosureProblem, IsClosure, IsNonempty, needing_at, needed_at, sum_of_side, cost_of, weight_of, IsBoundedProblem, sum_of_all}
 use Rattle.pf_closure.specs.Reduction.{closure_net, item_arcs, need_arc, source_arc, sink_arc, side_of, items_of, behind_first, sink_node}
 use Rattle.pf_closure.proofs.NetLemmas.{sum_beside, sum_beside_append, has_side, closure_cut, closure_capacity}
-
--- each cut is a side of a set
-last_apart : (xs : List Bool) (n : ℕ) → length xs ≡ suc n → has xs n ≡ false → xs ≡ take n xs ++ (false ∷ [])
-last_apart [] n e h = absurd (omega arith)
-last_apart (b ∷ []) zero e h = ap (λ c. c ∷ []) h
-last_apart (b ∷ []) (suc n) e h = absurd (omega arith)
-last_apart (b ∷ (c ∷ xs)) zero e h = absurd (omega arith)
-last_apart (b ∷ (c ∷ xs)) (suc n) e h = ap (λ l. b ∷ l) (last_apart (c ∷ xs) n (omega arith) h)
+use Rattle.pf_model.proofs.Duality.{leaves_by}
+use Rattle.pf_model.proofs.Facts.{last_apart, length_front, off_step}
 
 first_apart : (p : ClosureProblem) (side : List Bool) → length side ≡ suc (suc (length p.costs)) → has side 0 ≡ true → has side (suc (length p.costs)) ≡ false →
     side ≡ side_of (items_of p side)
@@ -32,9 +25,6 @@ first_apart p (b ∷ side) e h l =
 pub cut_is_side : (p : ClosureProblem) (side : List Bool) → IsNetworkCut (closure_net p) side → side ≡ side_of (items_of p side)
 cut_is_side p side c = first_apart p side c.full c.with_source c.without_sink
 
-length_items : (xs : List Bool) (n : ℕ) → n ≤ length xs → length (take n xs) ≡ n
-length_items xs n low = grind (arith, common_steps)
-
 behind_length : (side : List Bool) (n : ℕ) → length side ≡ suc n → length (behind_first side) ≡ n
 behind_length [] n e = absurd (omega arith)
 behind_length (b ∷ side) n e = omega arith
@@ -42,7 +32,7 @@ behind_length (b ∷ side) n e = omega arith
 pub items_full : (p : ClosureProblem) (side : List Bool) → IsNetworkCut (closure_net p) side → length (items_of p side) ≡ length p.costs
 items_full p side c =
     let e = behind_length side (suc (length p.costs)) c.full in
-    length_items (behind_first side) (length p.costs) (omega (arith, e))
+    length_front (behind_first side) (length p.costs) (omega (arith, e))
 
 -- capacities are not below 0
 pub record IsAt (p : ClosureProblem) (x : Fraction) : Type 0 where
@@ -196,9 +186,6 @@ crossing_low p x side k items a low h =
     let second = needs_cross p x side p.needs k a low h in
     omega (arith, ints, split, first, second)
 
-leaves_by : (side : List Bool) (arc : ℕ × ℕ) → has side arc.0 ≡ true → has side arc.1 ≡ false → leaves side arc ≡ true
-leaves_by side arc h out = rw (h, out) refl
-
 -- the arc of a need that leaves a set
 record IsCrossed (p : ClosureProblem) (set : List Bool) : Type 0 where
   need : ℕ
@@ -301,10 +288,6 @@ all_off set none i = elim (cases_Bool (has set i)) [
   | inl held ↦ absurd (none (record { item = i; held = held }))
   | inr off ↦ off
 ]
-
-off_step : (b : Bool) (x rest : ℤ) → b ≡ false → rest ≡ pos 0 → cond b x (pos 0) +ℤ rest ≡ pos 0
-off_step true x rest e h = cc
-off_step false x rest e h = omega (arith, ints)
 
 sum_off : (set : List Bool) (xs : List ℤ) → ((i : ℕ) → has set i ≡ false) → sum_of_side set xs ≡ pos 0
 sum_off [] xs h = refl

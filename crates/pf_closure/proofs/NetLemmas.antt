@@ -12,22 +12,17 @@ use Rattle.pf_model.proofs.Affine.{capacity_of_line}
 use Rattle.pf_closure.specs.Problem.{ClosureProblem, IsClosureProblem, IsClosure, needing_at, needed_at, sum_of_side, cost_of, weight_of, sum_of_all}
 use Rattle.pf_closure.specs.Laws.{IsClosureLine}
 use Rattle.pf_closure.specs.Reduction.{closure_net, item_arcs, need_arc, side_of, sink_node}
+use Rattle.pf_model.proofs.Facts.{add_before, need_step, none_before}
 
 -- a number beside each arc of a list of arcs
 abbrev pub sum_beside : (AffineArc → ℤ) → List Bool → List AffineArc → ℤ
 sum_beside number side arcs = sum_where (leaves side) (map ends_of arcs) (map number arcs)
 
-append_step : (here a b c : ℤ) → a ≡ b +ℤ c → here +ℤ a ≡ (here +ℤ b) +ℤ c
-append_step here a b c h = omega (arith, ints)
-
-none_before : (a : ℤ) → a ≡ pos 0 +ℤ a
-none_before a = omega (arith, ints)
-
 pub sum_beside_append : (number : AffineArc → ℤ) (side : List Bool) (xs ys : List AffineArc) →
     sum_beside number side (xs ++ ys) ≡ sum_beside number side xs +ℤ sum_beside number side ys
 sum_beside_append number side [] ys = none_before _
 sum_beside_append number side (x ∷ xs) ys =
-    append_step (cond (leaves side (ends_of x)) (number x) (pos 0)) _ _ _ (sum_beside_append number side xs ys)
+    add_before (cond (leaves side (ends_of x)) (number x) (pos 0)) _ _ _ (sum_beside_append number side xs ys)
 
 -- the arcs of one item: from the source where it is not in the set, and to the sink where it is
 item_a : (b source sink : Bool) (w c rest weights costs : ℤ) → source ≡ true → sink ≡ false → rest ≡ (pos 1000001 *ℤ weights) +ℤ costs →
@@ -84,12 +79,6 @@ items_b side sink i (b ∷ set) (c ∷ costs) (w ∷ weights) source out full wi
     rw (stands_here side i b set h)
     (item_b b (has side 0) (has side sink) w _ (sum_of_all weights) (sum_of_side set weights) source out
     (items_b side sink (suc i) set costs weights source out (omega arith) (omega arith) (stands_later side i b set h)))
-
--- no arc of a need leaves the side of a closure
-need_step : (u v : Bool) (x rest : ℤ) → (u ≡ true → v ≡ true) → rest ≡ pos 0 → cond (u && not v) x (pos 0) +ℤ rest ≡ pos 0
-need_step true true x rest h e = omega (arith, ints)
-need_step true false x rest h e = let f : false ≡ true = h refl in cc
-need_step false v x rest h e = omega (arith, ints)
 
 pub needs_none : (number : AffineArc → ℤ) (side : List Bool) (needs : List (ℕ × ℕ)) →
     ((k : ℕ) → k < length needs → has side (suc (get_or needs k (0, 0)).0) ≡ true → has side (suc (get_or needs k (0, 0)).1) ≡ true) →

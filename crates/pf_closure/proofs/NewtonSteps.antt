@@ -21,7 +21,7 @@ use Rattle.pf_closure.specs.Certificate.{RatioAnswer, IsRouting, CertifiesRatio}
 use Rattle.pf_closure.specs.Right.{IsRatioShape}
 use Rattle.pf_closure.specs.Reduction.{closure_net, items_of, side_of, item_arcs, need_arc, sink_node, routing_of}
 use Rattle.pf_closure.specs.Newton.{IsNewton, IsWholeSide, IsRest}
-use Rattle.pf_closure.proofs.ItemSums.{weight_some, take_whole}
+use Rattle.pf_closure.proofs.ItemSums.{weight_some}
 use Rattle.pf_closure.proofs.Soundness.{kept_by_closure, certificate_proves}
 use Rattle.pf_closure.proofs.DropLemmas.{carried}
 use Rattle.pf_closure.proofs.LeastCuts.{cut_is_side, net_cut, items_full, least_is_closure, smallest_is_below, none_of}
@@ -29,6 +29,7 @@ use Rattle.pf_closure.proofs.Routing.{routing_within}
 use Rattle.pf_closure.proofs.ArcLemmas.{arcs_full}
 use Rattle.pf_closure.proofs.NetBuilt.{net_monotone}
 use Rattle.pf_closure.proofs.SideSums.{item_has, items_length}
+use Rattle.pf_model.proofs.Sums.{take_whole}
 
 -- the ratio of a set whose cost is below x times its weight is at most x
 below_ratio : (p q p' q' c w : ℤ) → pos 1 ≤ℤ q → pos 1 ≤ℤ q' → pos 1 ≤ℤ w → (q *ℤ c) ≤ℤ (p *ℤ w) → q' *ℤ c ≡ p' *ℤ w → (p' *ℤ q) ≤ℤ (p *ℤ q')

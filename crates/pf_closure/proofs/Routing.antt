@@ -17,13 +17,7 @@ use Rattle.pf_closure.specs.Reduction.{closure_net, sink_node, side_of, routing_
 use Rattle.pf_closure.proofs.Soundness.{IsWithinSlack}
 use Rattle.pf_closure.proofs.NetLemmas.{has_side}
 use Rattle.pf_closure.proofs.LeastCuts.{none_of, alone_cut}
-
--- the sum over arcs that stand after others
-none_before : (a : ℤ) → a ≡ pos 0 +ℤ a
-none_before a = omega (arith, ints)
-
-behind_both : (x y a b c d : ℤ) → a ≡ b +ℤ c → d ≡ c → x +ℤ (y +ℤ a) ≡ (x +ℤ (y +ℤ b)) +ℤ d
-behind_both x y a b c d h e = omega (arith, ints, h, e)
+use Rattle.pf_model.proofs.Facts.{behind_both, none_before, pass_both, skip_one}
 
 -- flows are lists of numbers; the items' arcs take two of them each
 pub sum_behind : (test : ℕ × ℕ → Bool) (sink i : ℕ) (costs weights flow : List ℤ) (later : List AffineArc) → length weights ≡ length costs →
@@ -46,10 +40,6 @@ skip_out : (p q : Bool) (x y a : ℤ) → p ≡ false → q ≡ false → a ≡ 
 skip_out true q x y a e f h = cc
 skip_out false true x y a e f h = cc
 skip_out false false x y a e f h = omega (arith, ints)
-
-skip_one : (p : Bool) (x : ℤ) → p ≡ false → cond p x (pos 0) +ℤ pos 0 ≡ pos 0
-skip_one true x e = cc
-skip_one false x e = omega (arith, ints)
 
 other : (i t : ℕ) → t < i → (suc i == suc t) ≡ false
 other i t low = grind (arith, nat_tests)
@@ -91,11 +81,6 @@ take_in : (p q : Bool) (x y a : ℤ) → p ≡ true → q ≡ false → a ≡ po
 take_in true true x y a e f h = cc
 take_in true false x y a e f h = omega (arith, ints)
 take_in false q x y a e f h = cc
-
-pass_both : (p q : Bool) (x y a b : ℤ) → p ≡ false → q ≡ false → a ≡ b → cond p x (pos 0) +ℤ (cond q y (pos 0) +ℤ a) ≡ b
-pass_both true q x y a b e f h = cc
-pass_both false true x y a b e f h = cc
-pass_both false false x y a b e f h = omega (arith, ints, h)
 
 pub out_of_item : (sink i k t : ℕ) (costs weights flow : List ℤ) → length weights ≡ length costs → length costs + length costs ≤ length flow → k < length costs →
     t ≡ i + k → sum_where (λ arc. arc.0 == suc t) (map ends_of (item_arcs sink i costs weights)) flow ≡ at_arc flow (suc (k + k))

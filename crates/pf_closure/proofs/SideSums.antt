@@ -4,22 +4,17 @@ use Rattle.std.specs.Prelude.{ℤ, ◌+ℤ◌, ◌≤ℤ◌, pos, neg_ℤ}
 use Rattle.std.proofs.lemmas.Int.{ints}
 use Rattle.std.specs.List.{slice_range}
 use Rattle.std.proofs.lemmas.List.{get_or-take}
-use Rattle.std.proofs.lemmas.Grind.{common_steps}
 use Rattle.pf_model.specs.Cut.{has, at_arc}
 use Rattle.pf_closure.specs.Problem.{ClosureProblem, sum_of_side}
 use Rattle.pf_closure.specs.Reduction.{behind_first, items_of}
 use Rattle.pf_closure.proofs.ItemSums.{sum_of_none}
+use Rattle.pf_model.proofs.Sums.{none_after, take_whole}
+use Rattle.pf_model.proofs.Facts.{add_before, length_front}
 
 pub record IsSum (side : List Bool) (numbers : List ℤ) (i : ℕ) (sum : ℤ) : Type 0 where
   pub value : sum ≡ sum_of_side (take i (behind_first side)) (take i numbers)
   pub low : neg_ℤ (pos (i * 1000000)) ≤ℤ sum
   pub high : sum ≤ℤ pos (i * 1000000)
-
-none_after : (a : ℤ) → a +ℤ pos 0 ≡ pos 0 +ℤ a
-none_after a = omega (arith, ints)
-
-next_step : (here a b c : ℤ) → a ≡ b +ℤ c → here +ℤ a ≡ (here +ℤ b) +ℤ c
-next_step here a b c h = omega (arith, ints)
 
 sum_of_next : (set : List Bool) (xs : List ℤ) (k : ℕ) → k < length xs → k < length set →
     sum_of_side (take (suc k) set) (take (suc k) xs) ≡ sum_of_side (take k set) (take k xs) +ℤ cond (has set k) (at_arc xs k) (pos 0)
@@ -27,7 +22,7 @@ sum_of_next [] xs k low there = absurd (omega (arith, there))
 sum_of_next (b ∷ set) [] k low there = absurd (omega (arith, low))
 sum_of_next (b ∷ set) (x ∷ xs) zero low there = none_after (cond b x (pos 0))
 sum_of_next (b ∷ set) (x ∷ xs) (suc k) low there =
-    next_step (cond b x (pos 0)) _ _ _ (sum_of_next set xs k (omega (arith, low)) (omega (arith, there)))
+    add_before (cond b x (pos 0)) _ _ _ (sum_of_next set xs k (omega (arith, low)) (omega (arith, there)))
 
 pub sum_begins : (side : List Bool) (numbers : List ℤ) → IsSum side numbers 0 (pos 0)
 sum_begins side numbers = record { value = sym (sum_of_none (behind_first side) numbers); low = omega (arith, ints); high = omega (arith, ints) }
@@ -68,9 +63,6 @@ sum_goes_on side numbers i sum sum' x y s low room l h same picked step =
       high = omega (arith, ints, b, most, step, more);
     }
 
-take_whole : {X : Type 0} (xs : List X) (i : ℕ) → length xs ≤ i → take i xs ≡ xs
-take_whole xs i h = grind (arith, common_steps)
-
 pub sum_ends : (side : List Bool) (numbers : List ℤ) (i : ℕ) (sum : ℤ) → IsSum side numbers i sum → i ≡ length numbers →
     sum ≡ sum_of_side (take (length numbers) (behind_first side)) numbers
 sum_ends side numbers i sum s e =
@@ -90,11 +82,8 @@ pub sum_at : (side : List Bool) (xs ys : List ℤ) (n : ℕ) (sum : ℤ) → xs 
 sum_at side xs ys n sum e full h =
     h ∙ ap (λ l. sum_of_side (take (length l) (behind_first side)) l) e ∙ ap (λ m. sum_of_side (take m (behind_first side)) ys) full
 
-length_take : (xs : List Bool) (n : ℕ) → n ≤ length xs → length (take n xs) ≡ n
-length_take xs n low = grind (arith, common_steps)
-
 pub items_length : (side : List Bool) (n : ℕ) → n < length side → length (take n (behind_first side)) ≡ n
-items_length side n low = length_take (behind_first side) n (length_behind side n low)
+items_length side n low = length_front (behind_first side) n (length_behind side n low)
 
 -- an item of a side, and the items of a side as a part of it
 pub item_has : (p : ClosureProblem) (side : List Bool) (i : ℕ) → i < length p.costs → has (items_of p side) i ≡ has side (suc i)

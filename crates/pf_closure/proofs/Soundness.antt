@@ -10,34 +10,15 @@ use Rattle.pf_model.specs.Flow.{sum_out, sum_in}
 use Rattle.pf_model.proofs.Integers.{mul_add}
 use Rattle.pf_model.proofs.Sums.{Passes, sum_where_most, sum_where_empty, sum_where_tight}
 use Rattle.pf_model.proofs.Balance.{excess_below, more_excess, across_is_excess, none_below_zero, inside}
-use Rattle.pf_model.proofs.Duality.{leaves_parts, enters_parts}
+use Rattle.pf_model.proofs.Duality.{leaves_parts, enters_parts, at_zeros, enters_by, sum_zeros, zeros_full}
 use Rattle.pf_closure.specs.Problem.{ClosureProblem, IsClosureProblem, IsClosure, IsLeastRatio, needing_at, needed_at, sum_of_side, cost_of, weight_of}
 use Rattle.pf_closure.specs.Certificate.{net_inflow, reduced_cost, KeepsRules, IsDropped, IsRouting, CertifiesRatio}
 use Rattle.pf_closure.proofs.ItemSums.{sum_of_none, sum_of_suc, sum_of_whole, has_not}
+use Rattle.pf_model.proofs.Facts.{not_false, not_true}
 
 abbrev zeros : List (ℕ × ℕ) → List ℤ
 zeros [] = []
 zeros (arc ∷ arcs) = pos 0 ∷ zeros arcs
-
-zeros_full : (arcs : List (ℕ × ℕ)) → length (zeros arcs) ≡ length arcs
-zeros_full [] = refl
-zeros_full (arc ∷ arcs) = ap suc (zeros_full arcs)
-
-at_zeros : (arcs : List (ℕ × ℕ)) (i : ℕ) → at_arc (zeros arcs) i ≡ pos 0
-at_zeros [] i = refl
-at_zeros (arc ∷ arcs) zero = refl
-at_zeros (arc ∷ arcs) (suc i) = at_zeros arcs i
-
-zero_step : (b : Bool) (a : ℤ) → a ≡ pos 0 → cond b (pos 0) (pos 0) +ℤ a ≡ pos 0
-zero_step true a h = omega (arith, ints)
-zero_step false a h = omega (arith, ints)
-
-sum_zeros : (test : ℕ × ℕ → Bool) (arcs : List (ℕ × ℕ)) → sum_where test arcs (zeros arcs) ≡ pos 0
-sum_zeros test [] = refl
-sum_zeros test (arc ∷ arcs) = zero_step (test arc) _ (sum_zeros test arcs)
-
-enters_by : (side : List Bool) (arc : ℕ × ℕ) → has side arc.1 ≡ true → has side arc.0 ≡ false → enters side arc ≡ true
-enters_by side arc h out = rw (h, out) refl
 
 -- needs as arcs, with the items as nodes
 abbrev pub needs_of : ClosureProblem → FlowNetwork
@@ -189,14 +170,6 @@ in_tight p routing set r most k h =
     let t = sum_where_tight (enters set) p.needs (zeros p.needs) routing (zeros_full p.needs) r.full
     (λ j w. rw at_zeros (r.low j w.in_range)) (omega (arith, ints, most, sum_zeros (enters set) p.needs)) k h in
     omega (arith, ints, t, at_zeros p.needs k)
-
-not_true : (b : Bool) → not b ≡ true → b ≡ false
-not_true true e = cc
-not_true false e = refl
-
-not_false : (b : Bool) → b ≡ false → not b ≡ true
-not_false true e = cc
-not_false false e = refl
 
 pub complement_keeps : (p : ClosureProblem) (x : Fraction) (routing : List ℤ) (set : List Bool) → IsClosureProblem p → IsRouting p routing → IsWithinSlack p x routing →
     IsClosure p set → x.q *ℤ cost_of p set ≡ x.p *ℤ weight_of p set → KeepsRules p x routing (map not set)

@@ -2,8 +2,6 @@
 use Rattle.std.proofs.Common.{◌≡◌, ℕ, ◌+◌, ◌<◌, ◌≤◌, List, length, Bool, arith, subst}
 use Rattle.std.specs.Prelude.{ℤ}
 use Rattle.std.proofs.lemmas.Int.{ints}
-use Rattle.pf_model.specs.declared.Sense.{Sense}
-use Rattle.pf_model.specs.declared.Sense.TheVariants.{Rising, Falling}
 use Rattle.pf_model.specs.Fraction.{Fraction}
 use Rattle.pf_model.specs.Cut.{FlowNetwork, IsProper, IsLeast, IsSmallestLeast, capacity}
 use Rattle.pf_model.specs.Flow.{IsGreatest, value}
@@ -14,7 +12,7 @@ use Rattle.pf_model.proofs.Exists.{reach_exists}
 use Rattle.pf_model.proofs.Simple.{smallest_of_greatest, value_of_greatest}
 use Rattle.pf_model.proofs.Unique.{smallest_unique}
 use Rattle.pf_model.proofs.Affine.{proper_at}
-use Rattle.pf_model.proofs.Certificate.{point_inside, at_most_reflexive}
+use Rattle.pf_model.proofs.Certificate.{point_inside, at_most_reflexive, own_in_range}
 
 -- the value of a greatest flow is the capacity of each least cut
 value_of_least : (g : FlowNetwork) (flow : List ℤ) (side : List Bool) → IsProper g → IsGreatest g flow → IsLeast g side → value g flow ≡ capacity g side
@@ -33,10 +31,6 @@ reach_of_smallest g flow side proper best s =
     let same = smallest_unique g found.0 side (smallest_of_greatest g flow found.0 proper best found.1) s in
     let P : List Bool → Type 0 = λ x. IsReach g flow x in
     subst P same found.1
-
-own_most : (sense : Sense) (i k : ℕ) → i < k → own_point sense i ≤ k
-own_most Rising i k low = omega arith
-own_most Falling i k low = omega arith
 
 pub certificate_from_curve : (net : Network) (points : List Fraction) (cuts : List (List Bool)) (flows : List (List ℤ)) → IsMonotone net →
     IsCurve net points cuts → length flows ≡ length points →
@@ -59,7 +53,7 @@ certificate_from_curve net points cuts flows m c count best =
           let here = c.least i low (point_at net points (i + 1)) (d.parameters (i + 1) (omega (arith, d.count))) (omega (arith, ints, rise)) (at_most_reflexive (point_at net points (i + 1))) in
           value_of_least (network_at net (point_at net points (i + 1))) (flow_at flows (i + 1)) (cut_at cuts i) (proper (i + 1) (omega arith)) (best (i + 1) (omega (arith, d.count))) here;
       reach = λ i low.
-          let most = own_most net.sense i (length cuts) low in
+          let most = own_in_range net.sense i (length cuts) low in
           let j = own_point net.sense i in
           reach_of_smallest (network_at net (point_at net points j)) (flow_at flows j) (cut_at cuts i) (proper j most) (best j (omega (arith, d.count, most))) (c.smallest i low);
       cut = λ i low.

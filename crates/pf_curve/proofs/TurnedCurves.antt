@@ -1,5 +1,5 @@
 -- The curve of the mirror, turned round, is that of the network.
-use Rattle.std.proofs.Common.{◌≡◌, ℕ, suc, ◌-◌, ◌<◌, List, [], ◌∷◌, length, get_or, map, Bool, refl, arith, ap, sym, ◌∙◌, subst}
+use Rattle.std.proofs.Common.{◌≡◌, suc, ◌-◌, ◌<◌, List, [], ◌∷◌, length, get_or, map, Bool, refl, arith, ap, sym, ◌∙◌, subst}
 use Rattle.std.specs.Prelude.{ℤ, All, reverse}
 use Rattle.std.proofs.lemmas.Int.{ints}
 use Rattle.std.proofs.lemmas.List.{length-map, length-reverse, get_or-reverse}

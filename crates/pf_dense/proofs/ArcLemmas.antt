@@ -1,11 +1,11 @@
 -- The arcs of the network, one vertex or one edge after the other.
 use Rattle.std.proofs.Common.{◌≡◌, ℕ, zero, suc, ◌+◌, ◌<◌, List, [], ◌∷◌, ◌++◌, length, get_or, take, refl, arith, ap, sym, ◌∙◌, add-one}
-use Rattle.std.specs.Prelude.{ℤ, ◌-ℤ◌, pos}
-use Rattle.std.proofs.lemmas.Int.{ints}
+use Rattle.std.specs.Prelude.{ℤ, ◌-ℤ◌}
 use Rattle.pf_model.specs.declared.AffineArc.{AffineArc}
 use Rattle.pf_model.specs.Cut.{at_arc}
 use Rattle.pf_graph.specs.WeightedGraph.{WeightedGraph}
 use Rattle.pf_dense.specs.Reduction.{total_weight, weight_at, source_arc, sink_arc, edge_arc, vertex_arcs, edge_arcs}
+use Rattle.pf_model.proofs.Facts.{join_three, two_more}
 
 vertex_arcs_suc : (g : WeightedGraph) (sink j k : ℕ) (costs : List ℤ) → k < length costs →
     vertex_arcs g sink j (take (suc k) costs)
@@ -32,14 +32,6 @@ edge_arcs_suc (edge ∷ ends) (w ∷ weights) zero full low = refl
 edge_arcs_suc (edge ∷ ends) (w ∷ weights) (suc k) full low =
     ap (λ l. edge_arc edge.0 edge.1 w ∷ (edge_arc edge.1 edge.0 w ∷ l)) (edge_arcs_suc ends weights k (omega arith) (omega arith))
 
-two_more : (xs : List AffineArc) (a b : AffineArc) → (xs ++ (a ∷ [])) ++ (b ∷ []) ≡ xs ++ (a ∷ (b ∷ []))
-two_more [] a b = refl
-two_more (x ∷ xs) a b = ap (λ l. x ∷ l) (two_more xs a b)
-
-joined : (xs ys zs : List AffineArc) → (xs ++ ys) ++ zs ≡ xs ++ (ys ++ zs)
-joined [] ys zs = refl
-joined (x ∷ xs) ys zs = ap (λ l. x ∷ l) (joined xs ys zs)
-
 pub pushed_vertex : (g : WeightedGraph) (sink sink' k : ℕ) (costs : List ℤ) (old mid new : List AffineArc) (a b : AffineArc) (rest whole c : ℤ) → k < length costs →
     sink' ≡ sink → rest ≡ total_weight g -ℤ weight_at g k → whole ≡ total_weight g → c ≡ at_arc costs k →
     old ≡ vertex_arcs g sink 0 (take k costs) → mid ≡ old ++ (a ∷ []) → new ≡ mid ++ (b ∷ []) → a ≡ source_arc k rest c → b ≡ sink_arc sink' k whole →
@@ -63,8 +55,7 @@ pushed_edge ends weights k u v start old mid new a b w full low eu ev ew before 
     let there : b ≡ edge_arc (get_or ends k (0, 0)).1 (get_or ends k (0, 0)).0 (at_arc weights k) = rw (eb, eu, ev, ew) refl in
     let front = edge_arcs (take k ends) (take k weights) in
     second ∙ ap (λ l. l ++ (b ∷ [])) first ∙ two_more old a b
-    ∙ ap (λ l. l ++ (a ∷ (b ∷ []))) before ∙ joined start front (a ∷ (b ∷ []))
+    ∙ ap (λ l. l ++ (a ∷ (b ∷ []))) before ∙ join_three start front (a ∷ (b ∷ []))
     ∙ ap (λ x. start ++ (front ++ (x ∷ (b ∷ [])))) here
     ∙ ap (λ x. start ++ (front ++ (edge_arc (get_or ends k (0, 0)).0 (get_or ends k (0, 0)).1 (at_arc weights k) ∷ (x ∷ [])))) there
     ∙ sym (ap (λ l. start ++ l) (edge_arcs_suc ends weights k full low)) ∙ sym (ap (λ m. start ++ edge_arcs (take m ends) (take m weights)) (add-one k))
-

@@ -11,6 +11,7 @@ use Rattle.pf_graph.specs.WeightedGraph.{WeightedGraph, lies_in}
 use Rattle.pf_dense.specs.Densest.{weight_inside}
 use Rattle.pf_dense.specs.Certificate.{whole_charge, second_charges, charged}
 use Rattle.pf_dense.proofs.VertexSums.{sum_over, sum_over_add, sum_over_arcs}
+use Rattle.pf_model.proofs.Balance.{and_comm}
 
 -- the charges to the second ends
 pub length_seconds : (x : Fraction) (weights charges : List ℤ) → length charges ≡ length weights → length (second_charges x weights charges) ≡ length weights
@@ -62,12 +63,6 @@ charged_sum g x charges set =
 -- what edges with one end in the set charge that end
 abbrev pub mixed : WeightedGraph → Fraction → List ℤ → List Bool → ℤ
 mixed g x charges set = sum_where (leaves set) g.ends charges +ℤ sum_where (enters set) g.ends (second_charges x g.weights charges)
-
-pub and_comm : (a b : Bool) → (a && b) ≡ (b && a)
-and_comm true true = refl
-and_comm true false = refl
-and_comm false true = refl
-and_comm false false = refl
 
 pub spread_is : (g : WeightedGraph) (x : Fraction) (charges : List ℤ) (set : List Bool) → length g.weights ≡ length g.ends → length charges ≡ length g.ends →
     spread g x charges set ≡ (pos 2 *ℤ (x.q *ℤ weight_inside g set)) +ℤ mixed g x charges set

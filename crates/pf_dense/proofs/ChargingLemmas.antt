@@ -1,5 +1,5 @@
 -- What each vertex is charged, edge by edge.
-use Rattle.std.proofs.Common.{◌≡◌, ℕ, zero, suc, ◌+◌, ◌*◌, ◌^◌, ◌<◌, ◌≤◌, List, length, set, take, replicate, refl, Bool, true, false, cond, eqb, arith, ap, ◌∙◌, to_z, of_z}
+use Rattle.std.proofs.Common.{◌≡◌, ℕ, ◌+◌, ◌*◌, ◌^◌, ◌<◌, ◌≤◌, List, length, set, take, replicate, Bool, true, false, cond, eqb, arith, ap, ◌∙◌, to_z, of_z}
 use Rattle.std.specs.Prelude.{ℤ, ◌+ℤ◌, ◌-ℤ◌, ◌≤ℤ◌, pos}
 use Rattle.std.proofs.lemmas.Int.{ints}
 use Rattle.std.proofs.lemmas.List.{length-replicate}
@@ -8,7 +8,7 @@ use mir.Val.{SFits}
 use Rattle.pf_model.specs.Fraction.{Fraction}
 use Rattle.pf_model.specs.Cut.{sum_where, at_arc}
 use Rattle.pf_model.proofs.Sums.{sum_where_more, sum_all}
-use Rattle.pf_frame.proofs.Balances.{raised, raised_length}
+use Rattle.pf_frame.proofs.Balances.{raised, raised_length, zero_at}
 use Rattle.pf_graph.specs.WeightedGraph.{WeightedGraph, IsWeightedGraph}
 use Rattle.pf_dense.specs.Certificate.{first_end, second_end, whole_charge, second_charges, second_charge, AreCharges, AreWithin}
 use Rattle.pf_dense.specs.Dropping.{AreChargesTo, HasCharged, AreAllowed}
@@ -25,11 +25,6 @@ pub record IsCharging (g : WeightedGraph) (x : Fraction) (charges sums : List �
   pub each : (v : ℕ) → v < g.nodes → at_arc sums v ≡ charged_by g x charges i v
   pub low : (v : ℕ) → v < g.nodes → pos 0 ≤ℤ at_arc sums v
   pub high : (v : ℕ) → v < g.nodes → at_arc sums v ≤ℤ pos (i * 2 ^ 72)
-
-zero_at : (n v : ℕ) → at_arc (replicate n (pos 0)) v ≡ pos 0
-zero_at zero v = refl
-zero_at (suc n) zero = refl
-zero_at (suc n) (suc v) = zero_at n v
 
 pub charging_begins : (g : WeightedGraph) (x : Fraction) (charges sums : List ℤ) (n : ℕ) → sums ≡ replicate n (pos 0) → g.nodes ≤ n → IsCharging g x charges sums 0
 charging_begins g x charges sums n e room = rw e (record {

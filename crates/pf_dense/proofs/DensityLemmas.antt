@@ -28,6 +28,7 @@ use Rattle.pf_dense.proofs.NetLemmas.{side_capacity, cut_is_side, outside_full, 
 use Rattle.pf_dense.proofs.FlowCharges.{flow_within, flow_charges, none_of, none_full}
 use Rattle.pf_dense.proofs.NewtonSteps.{cost_off, weight_off, no_deficit, zero_deficit, step_of_cut, step_some}
 use Rattle.pf_model.proofs.Search.{has_none}
+use Rattle.pf_model.proofs.Sums.{take_whole}
 
 pub positive_of : (g : WeightedGraph) → IsWithinLimits g → HasPositiveCosts g
 positive_of g limits = record { low = λ v low. (limits.costs v low).low }
@@ -257,10 +258,6 @@ made_shape g x set got charges found a b bounds lowest c each = rw (a, b) (recor
   full = c.charges_are.full;
   each = each;
 })
-
--- what a call leaves in a whole vector
-take_whole : {X : Type 0} (xs : List X) (i : ℕ) → length xs ≤ i → take i xs ≡ xs
-take_whole xs i h = grind (arith, common_steps)
 
 with_none : {X : Type 0} (xs : List X) → xs ++ [] ≡ xs
 with_none [] = refl

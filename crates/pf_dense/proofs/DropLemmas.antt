@@ -13,6 +13,7 @@ use Rattle.pf_graph.specs.WeightedGraph.{WeightedGraph}
 use Rattle.pf_dense.specs.Densest.{IsNonempty}
 use Rattle.pf_dense.specs.Certificate.{first_end, second_end, second_charge, allowance, AreCharges, AreWithin, KeepsRules, CertifiesDense}
 use Rattle.pf_dense.specs.Dropping.{HasCharged, IsStart, edge_link, edges_at, IsDroppedBy}
+use Rattle.pf_model.proofs.Facts.{or_left, or_right}
 
 -- an edge as a link
 abbrev link_at : ℕ → ℕ → ℤ → ℤ → Link
@@ -56,14 +57,6 @@ edge_low marks [] i h = cc
 edge_low marks (edge ∷ ends) zero h = omega arith
 edge_low marks (edge ∷ ends) (suc i) h = let rest = edge_low marks ends i h in omega (arith, rest)
 
-by_first : (p q : Bool) → p ≡ true → (p || q) ≡ true
-by_first true q e = refl
-by_first false q e = cc
-
-by_second : (p q : Bool) → q ≡ true → (p || q) ≡ true
-by_second true q e = refl
-by_second false q e = e
-
 second_if : (p q : Bool) → (p || q) ≡ true → p ≡ false → q ≡ true
 second_if true q e h = cc
 second_if false q e h = e
@@ -90,8 +83,8 @@ pub dropped_by : (g : WeightedGraph) (x : Fraction) (charges sums : List ℤ) (s
 dropped_by g x charges sums start marks s b m = record {
   rules = record {
     strict = λ v low less. let e = s.each v low in m.more v (b.strict v low (omega (arith, ints, less, e)));
-    edge_by_first = λ i low h. edge_at marks g.ends i low ∙ by_first _ _ h;
-    edge_by_second = λ i low h. edge_at marks g.ends i low ∙ by_second _ _ h;
+    edge_by_first = λ i low h. edge_at marks g.ends i low ∙ or_left _ _ h;
+    edge_by_second = λ i low h. edge_at marks g.ends i low ∙ or_right _ _ h;
     first_by_edge = λ i low h more. elim (cases_Bool (has marks (first_end g i))) [
       | inl held ↦ held
       | inr off ↦ (m.kept.each i low).first_is (second_if _ _ (sym (edge_at marks g.ends i low) ∙ h) off) (less_true (pos 0) (at_arc charges i) more)

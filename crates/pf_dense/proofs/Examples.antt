@@ -8,27 +8,11 @@ use Rattle.pf_model.specs.Cut.{has}
 use Rattle.pf_graph.specs.WeightedGraph.{WeightedGraph}
 use Rattle.pf_dense.specs.Certificate.{charged, allowance, AreCharges, CertifiesDense}
 use Rattle.pf_dense.specs.Worked.{three, four, TiedTriangle, TriangleAlone, NoEdges, CheapVertex, DearVertex, DearVertexKept, WrongCharge, DearNumbers}
+use Rattle.pf_model.proofs.Facts.{below_four, below_three, below_two}
+use Rattle.pf_model.proofs.Search.{has_none}
 
 none_below : (P : ℕ → Type 0) (k : ℕ) → k < 0 → P k
 none_below P k low = absurd (omega (arith, low))
-
-two_below : (P : ℕ → Type 0) → P 0 → P 1 → (k : ℕ) → k < 2 → P k
-two_below P a b zero low = a
-two_below P a b (suc zero) low = b
-two_below P a b (suc (suc k)) low = absurd (omega (arith, low))
-
-three_below : (P : ℕ → Type 0) → P 0 → P 1 → P 2 → (k : ℕ) → k < 3 → P k
-three_below P a b c zero low = a
-three_below P a b c (suc zero) low = b
-three_below P a b c (suc (suc zero)) low = c
-three_below P a b c (suc (suc (suc k))) low = absurd (omega (arith, low))
-
-four_below : (P : ℕ → Type 0) → P 0 → P 1 → P 2 → P 3 → (k : ℕ) → k < 4 → P k
-four_below P a b c d zero low = a
-four_below P a b c d (suc zero) low = b
-four_below P a b c d (suc (suc zero)) low = c
-four_below P a b c d (suc (suc (suc zero))) low = d
-four_below P a b c d (suc (suc (suc (suc k)))) low = absurd (omega (arith, low))
 
 -- where each vertex is charged all that it may be, nothing is dropped
 has_none : (n v : ℕ) → has (replicate n false) v ≡ true → ⊥
@@ -40,11 +24,6 @@ has_all : (n v : ℕ) → v < n → has (replicate n true) v ≡ true
 has_all zero v low = absurd (omega (arith, low))
 has_all (suc n) zero low = refl
 has_all (suc n) (suc v) low = has_all n v (omega (arith, low))
-
-off : (n v : ℕ) → has (replicate n false) v ≡ false
-off zero v = refl
-off (suc n) zero = refl
-off (suc n) (suc v) = off n v
 
 full_certifies : (g : WeightedGraph) (x : Fraction) (charges : List ℤ) → IsParameter x → AreCharges g x charges → 0 < g.nodes →
     ((v : ℕ) → v < g.nodes → charged g x charges v ≡ allowance g x v) → CertifiesDense g x (replicate g.nodes true) charges
@@ -66,7 +45,7 @@ full_certifies g x charges parameter charges_are some tight = record {
     least_edges = λ vertices edges keeps i h. absurd (has_none (length g.ends) i h);
   };
   full = length-replicate g.nodes true;
-  rest = λ v low. rw (has_all g.nodes v low, off g.nodes v) refl;
+  rest = λ v low. rw (has_all g.nodes v low, has_none g.nodes v) refl;
   some = record { vertex = 0; held = has_all g.nodes 0 some };
 }
 
@@ -75,25 +54,25 @@ tied_triangle =
     full_certifies _ _ _ (omega (arith, ints))
     (record {
       full = refl;
-      low = four_below (λ i. _) (omega (arith, ints)) (omega (arith, ints)) (omega (arith, ints)) (omega (arith, ints));
-      high = four_below (λ i. _) (omega (arith, ints)) (omega (arith, ints)) (omega (arith, ints)) (omega (arith, ints));
+      low = below_four (λ i. _) (omega (arith, ints)) (omega (arith, ints)) (omega (arith, ints)) (omega (arith, ints));
+      high = below_four (λ i. _) (omega (arith, ints)) (omega (arith, ints)) (omega (arith, ints)) (omega (arith, ints));
     })
-    (omega arith) (four_below (λ v. _) refl refl refl refl)
+    (omega arith) (below_four (λ v. _) refl refl refl refl)
 
 pub no_edges_is : NoEdges
 no_edges_is =
     full_certifies _ _ _ (omega (arith, ints)) (record { full = refl; low = none_below (λ i. _); high = none_below (λ i. _) }) (omega arith)
-    (three_below (λ v. _) refl refl refl)
+    (below_three (λ v. _) refl refl refl)
 
 pub cheap_vertex : CheapVertex
 cheap_vertex =
     full_certifies _ _ _ (omega (arith, ints))
     (record {
       full = refl;
-      low = two_below (λ i. _) (omega (arith, ints)) (omega (arith, ints));
-      high = two_below (λ i. _) (omega (arith, ints)) (omega (arith, ints));
+      low = below_two (λ i. _) (omega (arith, ints)) (omega (arith, ints));
+      high = below_two (λ i. _) (omega (arith, ints)) (omega (arith, ints));
     })
-    (omega arith) (three_below (λ v. _) refl refl refl)
+    (omega arith) (below_three (λ v. _) refl refl refl)
 
 only_last : (P : ℕ → Type 0) → P 2 → (v : ℕ) → has (three false false true) v ≡ true → P v
 only_last P last zero h = cc
@@ -111,25 +90,25 @@ dear_vertex = record {
   parameter = omega (arith, ints);
   charges_are = record {
     full = refl;
-    low = two_below (λ i. _) (omega (arith, ints)) (omega (arith, ints));
-    high = two_below (λ i. _) (omega (arith, ints)) (omega (arith, ints));
+    low = below_two (λ i. _) (omega (arith, ints)) (omega (arith, ints));
+    high = below_two (λ i. _) (omega (arith, ints)) (omega (arith, ints));
   };
-  within = record { most = three_below (λ v. _) (omega (arith, ints)) (omega (arith, ints)) (omega (arith, ints)) };
+  within = record { most = below_three (λ v. _) (omega (arith, ints)) (omega (arith, ints)) (omega (arith, ints)) };
   vertices = three false false true;
   edges = false ∷ (true ∷ []);
   dropped = record {
     rules = record {
-      strict = three_below (λ v. _) (λ less. absurd (omega (arith, ints, less))) (λ less. absurd (omega (arith, ints, less))) (λ less. refl);
-      edge_by_first = two_below (λ i. _) (λ h. cc) (λ h. refl);
-      edge_by_second = two_below (λ i. _) (λ h. cc) (λ h. refl);
-      first_by_edge = two_below (λ i. _) (λ h more. cc) (λ h more. absurd (omega (arith, ints, more)));
-      second_by_edge = two_below (λ i. _) (λ h more. cc) (λ h more. refl);
+      strict = below_three (λ v. _) (λ less. absurd (omega (arith, ints, less))) (λ less. absurd (omega (arith, ints, less))) (λ less. refl);
+      edge_by_first = below_two (λ i. _) (λ h. cc) (λ h. refl);
+      edge_by_second = below_two (λ i. _) (λ h. cc) (λ h. refl);
+      first_by_edge = below_two (λ i. _) (λ h more. cc) (λ h more. absurd (omega (arith, ints, more)));
+      second_by_edge = below_two (λ i. _) (λ h more. cc) (λ h more. refl);
     };
     least_vertices = λ vertices edges keeps. only_last (λ v. has vertices v ≡ true) (keeps.strict 2 (omega arith) (omega (arith, ints)));
     least_edges = λ vertices edges keeps. only_second (λ i. has edges i ≡ true) (keeps.edge_by_second 1 (omega arith) (keeps.strict 2 (omega arith) (omega (arith, ints))));
   };
   full = refl;
-  rest = three_below (λ v. _) refl refl refl;
+  rest = below_three (λ v. _) refl refl refl;
   some = record { vertex = 0; held = refl };
 }
 

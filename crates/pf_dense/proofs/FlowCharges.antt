@@ -17,13 +17,7 @@ use Rattle.pf_dense.specs.Certificate.{whole_charge, second_charges, charged, Ar
 use Rattle.pf_dense.specs.Reduction.{total_weight, weight_at, source_arc, sink_arc, edge_arc, vertex_arcs, edge_arcs, sink_node, dense_net, side_of}
 use Rattle.pf_dense.specs.Carrying.{IsCarried}
 use Rattle.pf_dense.proofs.NetLemmas.{side_at, side_cut, side_sink, at_cut}
-
--- the sum over arcs that stand after others
-none_before : (a : ℤ) → a ≡ pos 0 +ℤ a
-none_before a = omega (arith, ints)
-
-behind_both : (x y a b c d : ℤ) → a ≡ b +ℤ c → d ≡ c → x +ℤ (y +ℤ a) ≡ (x +ℤ (y +ℤ b)) +ℤ d
-behind_both x y a b c d h e = omega (arith, ints, h, e)
+use Rattle.pf_model.proofs.Facts.{behind_both, none_before, pass_both, skip_one}
 
 sum_behind : (g : WeightedGraph) (test : ℕ × ℕ → Bool) (sink i : ℕ) (costs flow : List ℤ) (later : List AffineArc) → length costs + length costs ≤ length flow →
     sum_where test (map ends_of (vertex_arcs g sink i costs ++ later)) flow
@@ -42,10 +36,6 @@ skip_out : (p q : Bool) (x y a : ℤ) → p ≡ false → q ≡ false → a ≡ 
 skip_out true q x y a e f h = cc
 skip_out false true x y a e f h = cc
 skip_out false false x y a e f h = omega (arith, ints, h)
-
-skip_one : (p : Bool) (x : ℤ) → p ≡ false → cond p x (pos 0) +ℤ pos 0 ≡ pos 0
-skip_one true x e = cc
-skip_one false x e = omega (arith, ints)
 
 other : (i t : ℕ) → t < i → (suc i == suc t) ≡ false
 other i t low = grind (arith, nat_tests)
@@ -85,11 +75,6 @@ take_in : (p q : Bool) (x y a : ℤ) → p ≡ true → q ≡ false → a ≡ po
 take_in true true x y a e f h = cc
 take_in true false x y a e f h = omega (arith, ints, h)
 take_in false q x y a e f h = cc
-
-pass_both : (p q : Bool) (x y a b : ℤ) → p ≡ false → q ≡ false → a ≡ b → cond p x (pos 0) +ℤ (cond q y (pos 0) +ℤ a) ≡ b
-pass_both true q x y a b e f h = cc
-pass_both false true x y a b e f h = cc
-pass_both false false x y a b e f h = omega (arith, ints, h)
 
 out_of_vertex : (g : WeightedGraph) (sink i k t : ℕ) (costs flow : List ℤ) → length costs + length costs ≤ length flow → k < length costs → t ≡ i + k →
     sum_where (λ arc. arc.0 == suc t) (map ends_of (vertex_arcs g sink i costs)) flow ≡ at_arc flow (suc (k + k))

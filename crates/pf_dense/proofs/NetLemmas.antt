@@ -1,8 +1,7 @@
 -- The cuts of the network of a graph.
-use Rattle.std.proofs.Common.{◌≡◌, ℕ, zero, suc, ◌+◌, ◌<◌, ◌≤◌, List, [], ◌∷◌, ◌++◌, length, get_or, take, map, refl, Bool, true, false, cond, not, ◌&&◌, arith, ap, sym, ◌∙◌}
+use Rattle.std.proofs.Common.{◌≡◌, ℕ, zero, suc, ◌+◌, ◌<◌, List, [], ◌∷◌, ◌++◌, length, get_or, take, map, refl, Bool, true, false, cond, not, ◌&&◌, arith, ap, sym, ◌∙◌}
 use Rattle.std.specs.Prelude.{ℤ, ◌+ℤ◌, ◌-ℤ◌, ◌*ℤ◌, pos}
 use Rattle.std.proofs.lemmas.Int.{ints}
-use Rattle.std.proofs.lemmas.Grind.{common_steps}
 use Rattle.pf_model.specs.declared.AffineArc.{AffineArc}
 use Rattle.pf_model.specs.Fraction.{Fraction}
 use Rattle.pf_model.specs.Cut.{has, leaves, enters, sum_where, capacity, IsCut}
@@ -16,24 +15,19 @@ use Rattle.pf_dense.specs.Densest.{weight_inside, cost_within}
 use Rattle.pf_dense.specs.Reduction.{total_weight, weight_at, edge_arc, vertex_arcs, edge_arcs, sink_node, dense_net, side_of, behind_first, outside_of, IsDenseLine}
 use Rattle.pf_dense.specs.Newton.{deficit}
 use Rattle.pf_dense.proofs.VertexSums.{sum_over, sum_over_add, sum_over_arcs, sum_over_same}
-use Rattle.pf_dense.proofs.ChargeSums.{and_comm}
 use Rattle.pf_dense.proofs.Soundness.{has_not, length_not}
+use Rattle.pf_model.proofs.Facts.{add_before_by, last_apart, length_front, none_before}
+use Rattle.pf_model.proofs.Balance.{and_comm}
 
 -- a number beside each arc of a list of arcs that leaves a side
 abbrev pub sum_beside : (AffineArc → ℤ) → List Bool → List AffineArc → ℤ
 sum_beside number side arcs = sum_where (leaves side) (map ends_of arcs) (map number arcs)
 
-append_step : (here a b c : ℤ) → a ≡ b +ℤ c → here +ℤ a ≡ (here +ℤ b) +ℤ c
-append_step here a b c h = omega (arith, ints, h)
-
-none_before : (a : ℤ) → a ≡ pos 0 +ℤ a
-none_before a = omega (arith, ints)
-
 pub sum_beside_append : (number : AffineArc → ℤ) (side : List Bool) (xs ys : List AffineArc) →
     sum_beside number side (xs ++ ys) ≡ sum_beside number side xs +ℤ sum_beside number side ys
 sum_beside_append number side [] ys = none_before _
 sum_beside_append number side (x ∷ xs) ys =
-    append_step (cond (leaves side (ends_of x)) (number x) (pos 0)) _ _ _ (sum_beside_append number side xs ys)
+    add_before_by (cond (leaves side (ends_of x)) (number x) (pos 0)) _ _ _ (sum_beside_append number side xs ys)
 
 -- the vertices outside the side, from the node i + 1 on, are those of the set
 abbrev pub StandsOut : List Bool → ℕ → List Bool → Type 0
@@ -224,14 +218,6 @@ side_capacity g x set graph full =
     capacity_of_line (dense_net g) x (side_of set)
     ∙ value_step _ _ x.q x.p (pos g.nodes *ℤ total_weight g) (weight_inside g set) (cost_within g set) (dense_a g set graph full) (dense_b g set graph full)
 
--- each cut is the side of the vertices outside it
-last_apart : (xs : List Bool) (n : ℕ) → length xs ≡ suc n → has xs n ≡ false → xs ≡ take n xs ++ (false ∷ [])
-last_apart [] n e h = absurd (omega arith)
-last_apart (b ∷ []) zero e h = ap (λ c. c ∷ []) h
-last_apart (b ∷ []) (suc n) e h = absurd (omega arith)
-last_apart (b ∷ (c ∷ xs)) zero e h = absurd (omega arith)
-last_apart (b ∷ (c ∷ xs)) (suc n) e h = ap (λ l. b ∷ l) (last_apart (c ∷ xs) n (omega arith) h)
-
 not_twice : (b : Bool) → not (not b) ≡ b
 not_twice true = refl
 not_twice false = refl
@@ -249,9 +235,6 @@ first_apart g (b ∷ side) e h l =
 
 pub cut_is_side : (g : WeightedGraph) (side : List Bool) → IsNetworkCut (dense_net g) side → side ≡ side_of (outside_of g side)
 cut_is_side g side c = first_apart g side c.full c.with_source c.without_sink
-
-length_front : (xs : List Bool) (n : ℕ) → n ≤ length xs → length (take n xs) ≡ n
-length_front xs n low = grind (arith, common_steps)
 
 behind_length : (side : List Bool) (n : ℕ) → length side ≡ suc n → length (behind_first side) ≡ n
 behind_length [] n e = absurd (omega arith)

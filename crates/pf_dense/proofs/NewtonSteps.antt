@@ -1,5 +1,5 @@
 -- Newton's iteration begins, goes on with a denser set that costs less, and ends with the densest set.
-use Rattle.std.proofs.Common.{◌≡◌, ℕ, zero, suc, ◌<◌, List, [], ◌∷◌, length, replicate, refl, Bool, true, false, cond, not, ◌&&◌, arith, ap, sym, ◌∙◌, inl, inr}
+use Rattle.std.proofs.Common.{◌≡◌, ℕ, zero, suc, ◌<◌, List, [], ◌∷◌, length, replicate, refl, Bool, true, false, cond, not, arith, ap, sym, ◌∙◌, inl, inr}
 use Rattle.std.specs.Prelude.{ℤ, ◌+ℤ◌, ◌-ℤ◌, ◌*ℤ◌, ◌≤ℤ◌, ◌<ℤ◌, pos, ◌⊎◌, nat_abs}
 use Rattle.std.proofs.lemmas.Int.{ints, by_lt_z}
 use Rattle.std.proofs.lemmas.Bool.{cases_Bool, both_ways}
@@ -16,6 +16,7 @@ use Rattle.pf_dense.specs.Reduction.{dense_net, side_of, outside_of}
 use Rattle.pf_dense.specs.Newton.{deficit, IsStep, IsNewton}
 use Rattle.pf_dense.proofs.OneAnswer.{costs_some, cost_low}
 use Rattle.pf_dense.proofs.NetLemmas.{side_cut, side_capacity, side_at, cut_is_side, outside_full, at_cut, net_cut}
+use Rattle.pf_model.proofs.Facts.{off_both}
 
 -- the vertices outside the smallest least cut are the greatest of the sets that lack the least
 least_step : (k a b : ℤ) → (k +ℤ (pos 2 *ℤ a)) ≤ℤ (k +ℤ (pos 2 *ℤ b)) → a ≤ℤ b
@@ -54,7 +55,7 @@ step_of_cut g x side graph s =
     }
 
 -- a vertex, or none
-all_off : (b : Bool) (set : List Bool) → b ≡ false → ((v : ℕ) → has set v ≡ false) → (v : ℕ) → has (b ∷ set) v ≡ false
+pub all_off : (b : Bool) (set : List Bool) → b ≡ false → ((v : ℕ) → has set v ≡ false) → (v : ℕ) → has (b ∷ set) v ≡ false
 all_off b set off none zero = off
 all_off b set off none (suc v) = none v
 
@@ -76,10 +77,6 @@ pub cost_off : (costs : List ℤ) (set : List Bool) → ((v : ℕ) → has set v
 cost_off [] set h = refl
 cost_off (c ∷ costs) [] h = refl
 cost_off (c ∷ costs) (b ∷ set) h = off_step b c _ (h 0) (cost_off costs set (λ v. h (suc v)))
-
-off_both : (p q : Bool) → p ≡ false → (p && q) ≡ false
-off_both true q e = cc
-off_both false q e = refl
 
 pub weight_off : (g : WeightedGraph) (set : List Bool) → ((v : ℕ) → has set v ≡ false) → weight_inside g set ≡ pos 0
 weight_off g set h = sum_where_none (lies_in set) g.ends g.weights (λ edge. off_both (has set edge.0) (has set edge.1) (h edge.0))

@@ -1,6 +1,6 @@
 -- At most one density and one set are best.
-use Rattle.std.proofs.Common.{◌≡◌, ℕ, zero, suc, ◌<◌, List, [], ◌∷◌, length, Bool, true, false, cond, arith, ap, sym, ◌∙◌}
-use Rattle.std.specs.Prelude.{ℤ, ◌+ℤ◌, ◌*ℤ◌, ◌≤ℤ◌, pos}
+use Rattle.std.proofs.Common.{◌≡◌, ℕ, zero, suc, ◌<◌, List, [], ◌∷◌, length, Bool, true, arith, ap, sym, ◌∙◌}
+use Rattle.std.specs.Prelude.{ℤ, ◌*ℤ◌, ◌≤ℤ◌, pos}
 use Rattle.std.proofs.lemmas.Int.{ints}
 use Rattle.pf_model.specs.Fraction.{Fraction, IsEqual, IsLowest}
 use Rattle.pf_model.specs.Cut.{has, at_arc}
@@ -10,19 +10,7 @@ use Rattle.pf_model.proofs.Lowest.{same_fraction}
 use Rattle.pf_graph.specs.WeightedGraph.{WeightedGraph, IsWeightedGraph, cost_of}
 use Rattle.pf_dense.specs.Densest.{weight_inside, cost_within, HasPositiveCosts, IsVertexSet, IsDensest}
 use Rattle.pf_dense.specs.Laws.{IsSameAnswer}
-
--- a set with a vertex costs at least 1
-some_step : (b : Bool) (x rest : ℤ) → pos 1 ≤ℤ x → pos 0 ≤ℤ rest → pos 0 ≤ℤ (cond b x (pos 0) +ℤ rest)
-some_step true x rest h l = omega (arith, ints)
-some_step false x rest h l = omega (arith, ints)
-
-first_step : (b : Bool) (x rest : ℤ) → b ≡ true → pos 1 ≤ℤ x → pos 0 ≤ℤ rest → pos 1 ≤ℤ (cond b x (pos 0) +ℤ rest)
-first_step true x rest e h l = omega (arith, ints)
-first_step false x rest e h l = cc
-
-later_step : (b : Bool) (x rest : ℤ) → pos 1 ≤ℤ x → pos 1 ≤ℤ rest → pos 1 ≤ℤ (cond b x (pos 0) +ℤ rest)
-later_step true x rest h l = omega (arith, ints)
-later_step false x rest h l = omega (arith, ints)
+use Rattle.pf_model.proofs.Facts.{first_step, later_step, some_step}
 
 pub cost_low : (costs : List ℤ) (set : List Bool) → ((v : ℕ) → v < length costs → pos 1 ≤ℤ at_arc costs v) → pos 0 ≤ℤ cost_of costs set
 cost_low [] set h = omega (arith, ints)

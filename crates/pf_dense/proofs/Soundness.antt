@@ -7,7 +7,7 @@ use Rattle.pf_model.specs.Fraction.{Fraction}
 use Rattle.pf_model.specs.Cut.{has, at_arc, leaves, enters, IsContained}
 use Rattle.pf_model.proofs.Sums.{Passes}
 use Rattle.pf_model.proofs.Balance.{inside}
-use Rattle.pf_model.proofs.Duality.{leaves_parts, enters_parts}
+use Rattle.pf_model.proofs.Duality.{leaves_parts, enters_parts, enters_by, leaves_by}
 use Rattle.pf_graph.specs.WeightedGraph.{WeightedGraph, IsWeightedGraph, lies_in}
 use Rattle.pf_dense.specs.Densest.{weight_inside, cost_within, HasDensity, IsDensest}
 use Rattle.pf_dense.specs.Certificate.{first_end, second_end, second_charges, second_charge, charged, allowance, AreCharges, AreWithin, KeepsRules, CertifiesDense}
@@ -146,12 +146,6 @@ other_out_first : (p q : Bool) → not (p && q) ≡ true → q ≡ true → p �
 other_out_first true true e h = cc
 other_out_first false q e h = refl
 other_out_first true false e h = cc
-
-leaves_by : (side : List Bool) (arc : ℕ × ℕ) → has side arc.0 ≡ true → has side arc.1 ≡ false → leaves side arc ≡ true
-leaves_by side arc h out = rw (h, out) refl
-
-enters_by : (side : List Bool) (arc : ℕ × ℕ) → has side arc.1 ≡ true → has side arc.0 ≡ false → enters side arc ≡ true
-enters_by side arc h out = rw (h, out) refl
 
 pub tight_keeps : (g : WeightedGraph) (x : Fraction) (charges : List ℤ) (set : List Bool) → IsWeightedGraph g → length set ≡ g.nodes → IsTight g x charges set →
     KeepsRules g x charges (map not set) (edges_outside g set)

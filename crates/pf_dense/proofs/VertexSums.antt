@@ -6,6 +6,7 @@ use Rattle.std.proofs.lemmas.Bool.Decides.{nat_tests}
 use Rattle.pf_model.specs.Cut.{has, at_arc, sum_where}
 use Rattle.pf_model.proofs.Integers.{mul_add}
 use Rattle.pf_graph.specs.WeightedGraph.{cost_of}
+use Rattle.pf_model.proofs.Facts.{none_times}
 
 -- the sum of the numbers of the vertices of a set
 abbrev pub sum_over : (ℕ → ℤ) → List Bool → ℤ
@@ -68,11 +69,8 @@ scale_step false k x a d e =
     let none : k *ℤ pos 0 ≡ pos 0 = omega (arith, ints) in
     omega (arith, ints, e, m, none)
 
-none_scaled : (k : ℤ) → pos 0 ≡ k *ℤ pos 0
-none_scaled k = omega (arith, ints)
-
 pub sum_over_scale : (k : ℤ) (f : ℕ → ℤ) (set : List Bool) → sum_over (λ v. k *ℤ f v) set ≡ k *ℤ sum_over f set
-sum_over_scale k f [] = none_scaled k
+sum_over_scale k f [] = none_times k
 sum_over_scale k f (b ∷ set) = scale_step b k (f zero) _ _ (sum_over_scale k (λ v. f (suc v)) set)
 
 -- the cost of a set is such a sum

@@ -1,11 +1,11 @@
 -- The weights at the vertices and that of all edges, edge by edge.
-use Rattle.std.proofs.Common.{◌≡◌, ℕ, zero, suc, ◌+◌, ◌*◌, ◌^◌, ◌<◌, ◌≤◌, List, length, set, take, replicate, refl, Bool, true, false, cond, eqb, arith, ap, ◌∙◌}
+use Rattle.std.proofs.Common.{◌≡◌, ℕ, ◌+◌, ◌*◌, ◌^◌, ◌<◌, ◌≤◌, List, length, set, take, replicate, refl, Bool, true, false, cond, eqb, arith, ap, ◌∙◌}
 use Rattle.std.specs.Prelude.{ℤ, ◌+ℤ◌, ◌≤ℤ◌, pos}
 use Rattle.std.proofs.lemmas.Int.{ints}
 use Rattle.std.proofs.lemmas.List.{length-replicate}
 use Rattle.pf_model.specs.Cut.{sum_where, at_arc}
 use Rattle.pf_model.proofs.Sums.{sum_where_more, sum_all, sum_next}
-use Rattle.pf_frame.proofs.Balances.{raised, raised_length}
+use Rattle.pf_frame.proofs.Balances.{raised, raised_length, zero_at}
 use Rattle.pf_graph.specs.WeightedGraph.{WeightedGraph, IsWeightedGraph}
 use Rattle.pf_dense.specs.Certificate.{first_end, second_end}
 use Rattle.pf_dense.specs.Reduction.{total_weight}
@@ -21,11 +21,6 @@ pub record IsWeighing (g : WeightedGraph) (sums : List ℤ) (i : ℕ) : Type 0 w
   pub each : (v : ℕ) → v < g.nodes → at_arc sums v ≡ weight_by g i v
   pub low : (v : ℕ) → v < g.nodes → pos 0 ≤ℤ at_arc sums v
   pub high : (v : ℕ) → v < g.nodes → at_arc sums v ≤ℤ pos (i * 2 ^ 40)
-
-zero_at : (n v : ℕ) → at_arc (replicate n (pos 0)) v ≡ pos 0
-zero_at zero v = refl
-zero_at (suc n) zero = refl
-zero_at (suc n) (suc v) = zero_at n v
 
 pub weighing_begins : (g : WeightedGraph) (sums : List ℤ) (n : ℕ) → sums ≡ replicate n (pos 0) → n ≡ g.nodes → IsWeighing g sums 0
 weighing_begins g sums n e room = rw e (record {

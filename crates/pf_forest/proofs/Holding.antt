@@ -25,7 +25,7 @@ each_set P xs i y n low h here k in_range = elim (cases_eq k i) [
   | inr other ↦ rw (at_set_other xs i k y other) (h k in_range)
 ]
 
-true_cond : (here : Bool) (x : ℤ) → here ≡ true → cond here x (pos 0) ≡ x
+pub true_cond : (here : Bool) (x : ℤ) → here ≡ true → cond here x (pos 0) ≡ x
 true_cond true x e = refl
 true_cond false x e = cc
 
@@ -97,7 +97,7 @@ value_set ends heads i y v full low =
     let into = sum_where_set (λ arc. arc.1 == v) ends heads i y full low in
     omega (arith, ints, out, into)
 
-cond_same : (here : Bool) (x y : ℤ) → x ≡ y → cond here x (pos 0) ≡ cond here y (pos 0)
+pub cond_same : (here : Bool) (x y : ℤ) → x ≡ y → cond here x (pos 0) ≡ cond here y (pos 0)
 cond_same here x y e = ap (λ z. cond here z (pos 0)) e
 
 cond_negated : (here : Bool) (x y : ℤ) → x ≡ pos 0 -ℤ y → cond here x (pos 0) ≡ pos 0 -ℤ cond here y (pos 0)

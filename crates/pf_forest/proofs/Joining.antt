@@ -12,6 +12,7 @@ use Rattle.pf_graph.proofs.Counting.{label_occurs, occurs_find, same_bool}
 use Rattle.pf_forest.specs.Forest.{IsSparse}
 use Rattle.pf_forest.specs.Filling.{IsTight, IsJoined, touches}
 use Rattle.pf_forest.proofs.Sparse.{same_tight, tight_union}
+use Rattle.pf_model.proofs.Facts.{or_left, or_right}
 
 -- the side together with the groups of its vertices below k
 abbrev grown : List Bool → List ℕ → ℕ → List Bool
@@ -59,14 +60,6 @@ has-grown side groups full w low (suc k) =
     ∙ ap (λ b. has (grown side groups k) w || b) (has-part groups (label groups k) w low ∙ eqb_sym (label groups w) (label groups k)))
     refl (has-grown side groups full w low k)
 
-or_left : (p q : Bool) → p ≡ true → (p || q) ≡ true
-or_left true q e = refl
-or_left false q e = cc
-
-or_last : (p q : Bool) → q ≡ true → (p || q) ≡ true
-or_last true q e = refl
-or_last false q e = e
-
 -- each step keeps the side tight
 cond_tight : (g : Digraph) (limit : ℤ) (vector : List ℤ) (here : Bool) (bigger same : List Bool) → (here ≡ true → IsTight g limit vector bigger) → IsTight g limit vector same →
     IsTight g limit vector (cond here bigger same)
@@ -95,7 +88,7 @@ pub touches_own : (side : List Bool) (groups : List ℕ) (w : ℕ) → has side 
 touches_own side groups w h zero low = absurd (omega (arith, low))
 touches_own side groups w h (suc k) low = elim (cases_eq w k) [
   | inl here ↦ or_left _ (touches side groups k (label groups w)) (rw (← here, h) (eq-eqb _ _ refl))
-  | inr other ↦ or_last (has side k && (label groups k == label groups w)) _ (touches_own side groups w h k (omega (arith, low, other)))
+  | inr other ↦ or_right (has side k && (label groups k == label groups w)) _ (touches_own side groups w h k (omega (arith, low, other)))
 ]
 
 or_same : (p q : Bool) → (p ≡ true → q ≡ true) → (p || q) ≡ q

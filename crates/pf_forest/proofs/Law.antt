@@ -1,5 +1,5 @@
 -- A sparse vector within the weights, whose sum is that of a partition: no partition has a smaller worth.
-use Rattle.std.proofs.Common.{◌≡◌, ℕ, zero, suc, ◌<◌, List, [], ◌∷◌, length, get_or, map, refl, Bool, true, false, not, arith, ap, ◌∙◌, inl, inr}
+use Rattle.std.proofs.Common.{◌≡◌, ℕ, zero, suc, ◌<◌, List, [], ◌∷◌, length, get_or, map, refl, true, arith, ap, ◌∙◌, inl, inr}
 use Rattle.std.specs.Prelude.{ℤ, ◌+ℤ◌, ◌-ℤ◌, ◌*ℤ◌, ◌≤ℤ◌, pos, ◌==◌}
 use Rattle.std.proofs.lemmas.Int.{ints}
 use Rattle.std.proofs.lemmas.Bool.{both_ways, eq-eqb}
@@ -20,10 +20,7 @@ use Rattle.pf_forest.specs.Forest.{IsSparse, IsInRange, MeetsTotal, MeetsForest}
 use Rattle.pf_forest.specs.Filling.{IsForest, CrossingAreFull, MeetsSum}
 use Rattle.pf_forest.proofs.Sparse.{some_size}
 use Rattle.pf_forest.proofs.Splits.{splits_are_sparse}
-
-not_true : (b : Bool) → not b ≡ true → b ≡ false
-not_true true e = cc
-not_true false e = refl
+use Rattle.pf_model.proofs.Facts.{not_true}
 
 -- an edge that crosses has its goal
 full_at : (g : Digraph) (goals vector : List ℤ) (groups : List ℕ) → CrossingAreFull g goals vector groups → (i : ℕ) → i < length g.ends →

@@ -14,9 +14,10 @@ use Rattle.pf_graph.proofs.Classes.{has-part}
 use Rattle.pf_forest.specs.Held.{IsHeld, IsUnhit, IsShut, tail_of, head_of}
 use Rattle.pf_forest.specs.Forest.{IsSparse}
 use Rattle.pf_forest.specs.Filling.{IsForest, IsTight}
-use Rattle.pf_forest.proofs.Holding.{each_set, at_set_same, at_set_other, value_set, holder_at_tail, holder_at_head, rooms_high}
+use Rattle.pf_forest.proofs.Holding.{each_set, at_set_same, at_set_other, value_set, holder_at_tail, holder_at_head, rooms_high, cond_same, true_cond}
 use Rattle.pf_forest.proofs.Sets.{shared_of, root_bounds, shut_is_tight, times_less}
-use Rattle.pf_forest.proofs.Sparse.{some_size, inside_set}
+use Rattle.pf_forest.proofs.Sparse.{some_size, inside_set, zero_cond}
+use Rattle.pf_model.proofs.Facts.{off_both}
 
 -- What the root does not have yet cannot be kept from it: a shut side would hold too much.
 pub bare_root : (g : Digraph) (limit : ℤ) (vector heads rooms : List ℤ) (side : List Bool) (r : ℕ) → IsHeld g limit vector heads rooms → IsSparse g limit vector →
@@ -46,17 +47,6 @@ raised numbers i amount = set numbers i (at_arc numbers i +ℤ amount)
 
 abbrev pub lowered : List ℤ → ℕ → ℤ → List ℤ
 lowered numbers i amount = set numbers i (at_arc numbers i -ℤ amount)
-
-cond_same : (here : Bool) (x y : ℤ) → x ≡ y → cond here x (pos 0) ≡ cond here y (pos 0)
-cond_same here x y e = ap (λ z. cond here z (pos 0)) e
-
-true_cond : (here : Bool) (x : ℤ) → here ≡ true → cond here x (pos 0) ≡ x
-true_cond true x e = refl
-true_cond false x e = cc
-
-zero_cond : (here : Bool) (x : ℤ) → here ≡ false → cond here x (pos 0) ≡ pos 0
-zero_cond true x e = cc
-zero_cond false x e = refl
 
 lowered_at : (rooms : List ℤ) (v : ℕ) (amount : ℤ) (x : ℕ) → v < length rooms → at_arc (lowered rooms v amount) x ≡ at_arc rooms x -ℤ cond (eqb v x) amount (pos 0)
 lowered_at rooms v amount x low = elim (cases_eq x v) [
@@ -119,10 +109,6 @@ pub put_bare : (g : Digraph) (limit : ℤ) (vector heads rooms : List ℤ) (u v 
     at_arc (lowered rooms v amount) u ≡ limit
 put_bare g limit vector heads rooms u v i amount p = at_set_other rooms v u (at_arc rooms v -ℤ amount) p.apart ∙ p.bare
 
-not_first : (p q : Bool) → p ≡ false → (p && q) ≡ false
-not_first true q e = cc
-not_first false q e = refl
-
 pub put_sparse : (g : Digraph) (limit : ℤ) (vector heads rooms : List ℤ) (u v i : ℕ) (amount : ℤ) → IsPut g limit vector heads rooms u v i amount → IsSparse g limit vector →
     IsSparse g limit (raised vector i amount)
 put_sparse g limit vector heads rooms u v i amount p s = record {
@@ -132,7 +118,7 @@ put_sparse g limit vector heads rooms u v i amount p s = record {
         (shared_of g limit _ _ _ (put_held g limit vector heads rooms u v i amount p)) full in_side (put_bare g limit vector heads rooms u v i amount p)
     | inr out ↦
         let off : lies_in side (get_or g.ends i (0, 0)) ≡ false =
-        not_first (has side (tail_of g.ends i)) (has side (head_of g.ends i)) (ap (has side) p.tail ∙ out) in
+        off_both (has side (tail_of g.ends i)) (has side (head_of g.ends i)) (ap (has side) p.tail ∙ out) in
         let e = inside_set g.ends vector side i (at_arc vector i +ℤ amount) p.held.vector_full p.in_range off in
         let most = s.sparse side full some in
         omega (arith, ints, e, most)

@@ -7,27 +7,14 @@ use Rattle.std.proofs.lemmas.Bool.Decides.{nat_tests}
 use Rattle.pf_model.specs.Cut.{sum_where, has, leaves, enters, size, at_arc}
 use Rattle.pf_model.specs.Flow.{sum_out}
 use Rattle.pf_model.specs.Digraph.{Digraph, network_of}
-use Rattle.pf_model.proofs.Balance.{below, excess, excess_below, more_excess, across_is_excess, inside}
+use Rattle.pf_model.proofs.Balance.{below, excess, excess_below, more_excess, across_is_excess, inside, below_keeps, below_none, below_skips, below_takes}
 use Rattle.pf_model.proofs.Integers.{mul_add}
 use Rattle.pf_model.proofs.Sums.{sum_where_same, sum_where_split, sum_where_none, sum_where_most, sum_where_empty}
-use Rattle.pf_graph.specs.WeightedGraph.{lies_in}
 use Rattle.pf_graph.specs.WeightedGraph as edges
 use Rattle.pf_graph.proofs.Counting.{count}
 use Rattle.pf_forest.specs.Held.{IsHeld, IsShut, held, tail_of, head_of}
 use Rattle.pf_forest.specs.Forest.{bound_of}
 use Rattle.pf_forest.proofs.Holding.{sum_low}
-
-below_skips : (side : List Bool) (k v : ℕ) → has side k ≡ false → below side (suc k) v ≡ below side k v
-below_skips side k v h = grind (arith, nat_tests)
-
-below_takes : (side : List Bool) (k v : ℕ) → has side k ≡ true → (below side (suc k) v && (v == k)) ≡ (v == k)
-below_takes side k v h = grind (arith, nat_tests)
-
-below_keeps : (side : List Bool) (k v : ℕ) → (below side (suc k) v && not (v == k)) ≡ below side k v
-below_keeps side k v = grind (arith, nat_tests)
-
-below_none : (side : List Bool) (v : ℕ) → below side 0 v ≡ false
-below_none side v = grind (arith, nat_tests)
 
 below_all : (side : List Bool) (n v : ℕ) → length side ≡ n → below side n v ≡ has side v
 below_all side n v full = grind (arith, nat_tests, inside)

@@ -64,7 +64,7 @@ tight_union g limit vector first second r s low full full' h h' t t' =
     record { tight = omega (arith, ints, more, meet, join, a, b, c, d, e, f, product, tight, tight') }
 
 -- raising an edge that does not lie in the side leaves the sum inside
-zero_cond : (here : Bool) (x : ℤ) → here ≡ false → cond here x (pos 0) ≡ pos 0
+pub zero_cond : (here : Bool) (x : ℤ) → here ≡ false → cond here x (pos 0) ≡ pos 0
 zero_cond true x e = cc
 zero_cond false x e = refl
 

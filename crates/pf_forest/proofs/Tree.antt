@@ -3,17 +3,13 @@ use Rattle.std.proofs.Common.{◌≡◌, ◌≢◌, ℕ, ◌+◌, ◌<◌, ◌�
 use Rattle.std.specs.Prelude.{ℤ, pos, ◌⊎◌, ◌≤ℤ◌, ◌<ℤ◌, int_lt}
 use Rattle.std.proofs.lemmas.Int.{ints}
 use Rattle.std.proofs.lemmas.Bool.{both_ways, cases_eq, cases_Bool}
-use Rattle.std.proofs.lemmas.List.{length-set, get_or-set_same, get_or-set_other}
+use Rattle.std.proofs.lemmas.List.{length-set, get_or-set_same}
 use Rattle.pf_model.specs.Cut.{has, at_arc}
 use Rattle.pf_model.specs.Digraph.{Digraph, network_of}
 use Rattle.pf_model.specs.Residual.{IsResidual}
-use Rattle.pf_model.proofs.Search.{IsSearch, has-set, has-set_new, set_same}
+use Rattle.pf_model.proofs.Search.{IsSearch, has-set, has-set_new, set_same, has-set_here}
 use Rattle.pf_forest.specs.Held.{IsTree, IsHit, IsUnhit, IsShut, HasParent, HoldsAtTail, HoldsAtHead}
-
-kept_number : (side : List Bool) (xs : List ℕ) (w x y : ℕ) → has side w ≡ false → has side x ≡ true → get_or (set xs w y) x 0 ≡ get_or xs x 0
-kept_number side xs w x y out h =
-    let ne : x ≢ w = λ same. both_ways _ out (rw (← same) h) in
-    rw get_or-set_other refl
+use Rattle.pf_model.proofs.Facts.{kept_number}
 
 -- the other end of the edge holds a part of its charge
 abbrev pub Holds : Digraph → List ℤ → List ℤ → ℕ → ℕ → ℕ → Type 0
@@ -113,9 +109,6 @@ pub same_length : (marked : Bool) (xs ys : List ℕ) (w x n : ℕ) → length xs
 same_length true xs ys w x n full e = ap length e ∙ full
 same_length false xs ys w x n full e = ap length e ∙ length-set xs w x ∙ full
 
-has_here : (side : List Bool) (w : ℕ) → w < length side → has (set side w true) w ≡ true
-has_here side w low = rw get_or-set_same refl
-
 pub visit_sweep : (g : Digraph) (vector heads rooms : List ℤ) (root skip none : ℕ) (side : List Bool) (via rank : List ℕ) (put hit now w i : ℕ)
     (side' : List Bool) (via' rank' : List ℕ) (put' hit' : ℕ) →
     IsSweep g vector heads rooms root skip none side via rank put hit → length side ≡ g.nodes → w < g.nodes → has side now ≡ true → i < length g.ends →
@@ -127,7 +120,7 @@ visit_sweep g vector heads rooms root skip none side via rank put hit now w i si
     record {
       tree = rw (e1, e2, e3, e4) (visit_tree_cases g vector heads root side via rank now w i put s.tree (omega (arith, low, s.vias)) (omega (arith, low, s.ranks))
           h in_range by (has side w) refl);
-      hits = rw e1 (hit_step rooms root skip none side hit w hit' s.hits (has_here side w (omega (arith, low, full))) kept taken passed);
+      hits = rw e1 (hit_step rooms root skip none side hit w hit' s.hits (has-set_here side w (omega (arith, low, full))) kept taken passed);
       vias = same_length (has side w) via via' w i g.nodes s.vias e2;
       ranks = same_length (has side w) rank rank' w put g.nodes s.ranks e3;
     }

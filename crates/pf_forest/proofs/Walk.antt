@@ -1,5 +1,5 @@
 -- Charge that is moved along the tree, from a vertex with room back to the root.
-use Rattle.std.proofs.Common.{◌≡◌, ◌≢◌, ℕ, ◌<◌, ◌≤◌, ◌^◌, List, length, get_or, set, refl, Bool, true, false, cond, eqb, arith, ap, sym, ◌∙◌, inl, inr, subst}
+use Rattle.std.proofs.Common.{◌≡◌, ◌≢◌, ℕ, ◌<◌, ◌≤◌, ◌^◌, List, length, get_or, set, refl, Bool, true, cond, eqb, arith, ap, sym, ◌∙◌, inl, inr, subst}
 use Rattle.std.specs.Prelude.{ℤ, ◌+ℤ◌, ◌-ℤ◌, pos, ◌⊎◌, ◌≤ℤ◌, ◌<ℤ◌}
 use Rattle.std.proofs.lemmas.Int.{ints}
 use Rattle.std.proofs.lemmas.Bool.{eq-eqb, ne_eqb}
@@ -7,8 +7,9 @@ use Rattle.pf_model.specs.Cut.{has, at_arc}
 use Rattle.pf_model.specs.Digraph.{Digraph, IsDigraph}
 use Rattle.pf_model.proofs.Balance.{inside}
 use Rattle.pf_forest.specs.Held.{IsHeld, IsBare, IsTree, IsHit, HasParent, tail_of, head_of}
-use Rattle.pf_forest.proofs.Holding.{shifted, shifted_at, at_set_other, holder_at_tail, holder_at_head, held_from_tail, held_from_head, rooms_high}
+use Rattle.pf_forest.proofs.Holding.{shifted, shifted_at, at_set_other, holder_at_tail, holder_at_head, held_from_tail, held_from_head, rooms_high, true_cond}
 use Rattle.pf_forest.proofs.Tree.{Holds}
+use Rattle.pf_forest.proofs.Sparse.{zero_cond}
 
 -- room is at b; after it, the tree is as it was
 pub record IsWalk (g : Digraph) (limit : ℤ) (vector before : List ℤ) (root skip : ℕ) (side : List Bool) (via rank : List ℕ) (heads rooms : List ℤ) (b : ℕ) : Type 0 where
@@ -84,14 +85,6 @@ parent_stays g vector heads side via rank w e y p off =
       ];
     }
 
-zero_cond : (here : Bool) (x : ℤ) → here ≡ false → cond here x (pos 0) ≡ pos 0
-zero_cond true x e = cc
-zero_cond false x e = refl
-
-one_cond : (here : Bool) (x : ℤ) → here ≡ true → cond here x (pos 0) ≡ x
-one_cond true x e = refl
-one_cond false x e = cc
-
 -- one step back, to the parent
 walk_step : (g : Digraph) (limit : ℤ) (vector before : List ℤ) (root skip : ℕ) (side : List Bool) (via rank : List ℕ) (heads rooms : List ℤ) (b : ℕ) (y amount : ℤ)
     (p : HasParent g vector heads side via rank b) →
@@ -124,7 +117,7 @@ walk_step g limit vector before root skip side via rank heads rooms b y amount p
       apart = not_skip;
       room =
           let e = room a in
-          let f = one_cond (eqb a a) amount (eq-eqb a a refl) in
+          let f = true_cond (eqb a a) amount (eq-eqb a a refl) in
           let k = zero_cond (eqb b a) amount (ne_eqb b a apart) in
           let l = walk.held.rooms_low a low_a in
           omega (arith, ints, e, f, k, l, positive);
@@ -139,7 +132,7 @@ walk_step g limit vector before root skip side via rank heads rooms b y amount p
           ));
       more = λ here.
           let e = room root in
-          let f = one_cond (eqb a root) amount (eq-eqb a root here) in
+          let f = true_cond (eqb a root) amount (eq-eqb a root here) in
           let k = zero_cond (eqb b root) amount (ne_eqb b root off) in
           let l = walk.same off in
           omega (arith, ints, e, f, k, l, positive);

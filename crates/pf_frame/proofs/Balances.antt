@@ -51,7 +51,7 @@ negated : (here : Bool) (x : ℤ) → cond here (pos 0 -ℤ x) (pos 0) ≡ pos 0
 negated true x = refl
 negated false x = refl
 
-zero_at : (n v : ℕ) → at_arc (replicate n (pos 0)) v ≡ pos 0
+pub zero_at : (n v : ℕ) → at_arc (replicate n (pos 0)) v ≡ pos 0
 zero_at zero v = refl
 zero_at (suc n) zero = refl
 zero_at (suc n) (suc v) = zero_at n v

@@ -18,7 +18,7 @@ use Rattle.pf_text.specs.Lines.{Line, in_front, raw_lines, fields, is_passed_ove
 use Rattle.pf_text.specs.Numbers.{natural_of, whole_of, billion}
 use Rattle.pf_text.specs.Kinds.{number, word, State, Accepted, match_of, broken_if, header, step, is_end, body}
 use Rattle.pf_text.specs.Spelling.{line}
-use Rattle.pf_text.proofs.LinesLemmas.{lines_give, fields_of_line}
+use Rattle.pf_text.proofs.LinesLemmas.{lines_give, fields_of_line, not_true}
 use Rattle.pf_text.proofs.NumbersLemmas.{whole_of-signed_decimal}
 use Rattle.pf_text.proofs.TextLines.{is_plain, IsPlain, ArePlain, are_fields, is_inside, join_inside, decimal_plain, signed_plain}
 use Rattle.pf_gen.proofs.Judging.{problem_of_header, header_ok, body_end, body_step, step_ok, end_ok, range_ok}
@@ -34,10 +34,6 @@ both : (a b : Bool) → (a && b) ≡ true → (a ≡ true) × (b ≡ true)
 both true true e = (refl, refl)
 both true false e = absurd cc
 both false b e = absurd cc
-
-not_true : (b : Bool) → not b ≡ true → b ≡ false
-not_true true e = absurd cc
-not_true false e = refl
 
 raw_line : (bytes rest : List ℕ) → list_all is_inside bytes ≡ true → raw_lines (bytes ++ 10 ∷ rest) ≡ record { bytes = bytes; rest = rest } ∷ raw_lines rest
 unfolding raw_lines

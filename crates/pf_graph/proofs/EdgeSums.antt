@@ -2,18 +2,15 @@
 use Rattle.std.proofs.Common.{◌≡◌, ℕ, zero, suc, ◌+◌, ◌*◌, ◌^◌, ◌<◌, ◌≤◌, List, [], ◌∷◌, length, get_or, take, map, Bool, true, false, cond, arith, ap, sym, ◌∙◌, add-one}
 use Rattle.std.specs.Prelude.{ℤ, ◌+ℤ◌, ◌≤ℤ◌, pos}
 use Rattle.std.proofs.lemmas.Int.{ints}
-use Rattle.std.proofs.lemmas.Grind.{common_steps}
-use Rattle.std.proofs.lemmas.List.{length-map, get_or-map}
-use Rattle.pf_model.specs.Cut.{sum_where, at_arc, has}
-use Rattle.pf_model.proofs.Sums.{sum_next, sum_all}
+use Rattle.std.proofs.lemmas.List.{length-map}
+use Rattle.pf_model.specs.Cut.{sum_where, has}
+use Rattle.pf_model.proofs.Sums.{sum_next, sum_all, none_after, take_whole}
 use Rattle.pf_graph.specs.WeightedGraph.{cost_of}
 use Rattle.pf_graph.specs.Labels.{crosses, crossing_edges}
+use Rattle.pf_model.proofs.Facts.{number_at}
 
 pub edge_test : (f : ℕ → ℕ → Bool) (edge : ℕ × ℕ) (u v : ℕ) (b : Bool) → u ≡ edge.0 → v ≡ edge.1 → b ≡ f u v → f edge.0 edge.1 ≡ b
 edge_test f edge u v b e h k = ap (λ n. f n edge.1) (sym e) ∙ ap (f u) (sym h) ∙ sym k
-
-pub number_at : (numbers : List ℕ) (i : ℕ) → i < length numbers → at_arc (map pos numbers) i ≡ pos (get_or numbers i 0)
-number_at numbers i low = get_or-map pos numbers i 0 (pos 0) low
 
 -- the sum over the first i edges that pass
 pub record IsSum (test : ℕ × ℕ → Bool) (ends : List (ℕ × ℕ)) (numbers : List ℕ) (i : ℕ) (sum : ℤ) : Type 0 where
@@ -53,18 +50,15 @@ pub record IsCost (costs : List ℕ) (side : List Bool) (v : ℕ) (sum : ℤ) : 
   pub low : pos 0 ≤ℤ sum
   pub high : sum ≤ℤ pos (v * 2 ^ 32)
 
-cost_step : (a b c d : ℤ) → b ≡ c +ℤ d → a +ℤ b ≡ (a +ℤ c) +ℤ d
+pub cost_step : (a b c d : ℤ) → b ≡ c +ℤ d → a +ℤ b ≡ (a +ℤ c) +ℤ d
 cost_step a b c d e = omega (arith, ints, e)
-
-last_cost : (a : ℤ) → a +ℤ pos 0 ≡ pos 0 +ℤ a
-last_cost a = omega (arith, ints)
 
 cost_more : (costs : List ℕ) (side : List Bool) (v : ℕ) → length side ≡ length costs → v < length costs →
     cost_of (map pos (take (suc v) costs)) (take (suc v) side)
     ≡ cost_of (map pos (take v costs)) (take v side) +ℤ cond (has side v) (pos (get_or costs v 0)) (pos 0)
 cost_more [] side v full low = absurd (omega arith)
 cost_more (x ∷ costs) [] v full low = absurd (omega arith)
-cost_more (x ∷ costs) (b ∷ side) zero full low = last_cost (cond b (pos x) (pos 0))
+cost_more (x ∷ costs) (b ∷ side) zero full low = none_after (cond b (pos x) (pos 0))
 cost_more (x ∷ costs) (b ∷ side) (suc v) full low = cost_step (cond b (pos x) (pos 0)) _ _ _ (cost_more costs side v (omega arith) (omega arith))
 
 pub next_cost : (costs : List ℕ) (side : List Bool) (v : ℕ) (x z : ℤ) (here : Bool) → length side ≡ length costs → v < length costs →
@@ -80,9 +74,6 @@ next_cost costs side v x z here full low sum is small step =
       low = low_step here x z (get_or costs v 0) sum.low step;
       high = high_step here x z (get_or costs v 0) v (2 ^ 32) sum.high small step;
     }
-
-take_whole : {X : Type 0} (xs : List X) (i : ℕ) → length xs ≤ i → take i xs ≡ xs
-take_whole xs i h = grind (arith, common_steps)
 
 pub whole_cost : (costs : List ℕ) (side : List Bool) (v : ℕ) (x : ℤ) → length side ≡ length costs → length costs ≤ v →
     IsCost costs side v x → x ≡ cost_of (map pos costs) side

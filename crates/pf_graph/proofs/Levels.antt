@@ -83,16 +83,16 @@ abbrev pub one_part : ℕ → List ℕ
 one_part zero = []
 one_part (suc n) = 0 ∷ one_part n
 
-length_one : (n : ℕ) → length (one_part n) ≡ n
+pub length_one : (n : ℕ) → length (one_part n) ≡ n
 length_one zero = refl
 length_one (suc n) = ap suc (length_one n)
 
-label_one : (n v : ℕ) → label (one_part n) v ≡ 0
+pub label_one : (n v : ℕ) → label (one_part n) v ≡ 0
 label_one zero v = refl
 label_one (suc n) zero = refl
 label_one (suc n) (suc v) = label_one n v
 
-crossing_one : (g : WeightedGraph) (n : ℕ) → crossing_of g (one_part n) ≡ pos 0
+pub crossing_one : (g : WeightedGraph) (n : ℕ) → crossing_of g (one_part n) ≡ pos 0
 crossing_one g n = sum_where_none (crosses (one_part n)) g.ends g.weights (λ edge. rw (label_one n edge.0, label_one n edge.1) refl)
 
 at_zero : (b p : ℤ) → p ≡ pos 0 → b *ℤ p ≡ pos 0

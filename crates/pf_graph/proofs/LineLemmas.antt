@@ -1,22 +1,12 @@
 -- The numbers of the line of an edge as code has them, and what its rules make of them.
-use Rattle.std.proofs.Common.{◌≡◌, ◌≢◌, ℕ, ◌<◌, ◌≤◌, ◌^◌, List, [], ◌∷◌, ◌++◌, get_or, map, Bool, false, eqb, Ok, refl, sym, ap, ◌∙◌, arith, to_z, of_z, w64}
-use Rattle.std.specs.Prelude.{ℤ, pos, nat_abs}
+use Rattle.std.proofs.Common.{◌≡◌, ◌≢◌, ℕ, ◌<◌, ◌^◌, List, [], ◌∷◌, ◌++◌, map, false, eqb, Ok, refl, sym, ap, ◌∙◌, arith}
+use Rattle.std.specs.Prelude.{ℤ, pos}
 use Rattle.std.proofs.lemmas.Int.{ints}
 use Rattle.std.proofs.lemmas.Bool.{ne_eqb}
 use Rattle.std.proofs.lemmas.List.{map-append}
 use Rattle.pf_text.specs.Kinds.{Fits}
 use Rattle.pf_graph.specs.Text.{SlotNumbers, Given, vertex_count, index, edge_form, edge_rules}
-
--- a number of at most this size comes back from its bits
-back : (z : ℤ) → nat_abs z ≤ 2 ^ 33 → to_z w64 (of_z w64 z) ≡ z
-back z h = omega (arith, ints, h)
-
-abbrev pub bits : ℤ → ℤ
-bits z = to_z w64 (of_z w64 z)
-
--- the number at this place
-abbrev pub at : List ℤ → ℕ → ℤ
-at numbers i = get_or numbers i (pos 0)
+use Rattle.pf_lines.proofs.LineNumbers.{at, back, bits}
 
 abbrev pub given_by : SlotNumbers → SlotNumbers → List (ℕ × ℕ) → List ℤ → Given
 given_by costs prices ends weights = record { costs = costs; prices = prices; ends = ends; weights = weights }

@@ -8,7 +8,7 @@ use Rattle.std.proofs.lemmas.List.{length-set, get_or-set_same, get_or-set_other
 use Rattle.pf_graph.specs.Labels.{label, greatest_label, IsPartition, IsPartitionOf}
 use Rattle.pf_graph.specs.Keeping.{IsKeptPartition}
 use Rattle.pf_graph.proofs.Counting.{label_top}
-use Rattle.pf_graph.proofs.SamePartition.{top_take}
+use Rattle.pf_graph.proofs.SamePartition.{top_take, take_whole}
 
 -- the first v vertices have their labels, of which count is the greatest
 pub record IsNumbered (groups labels : List ℕ) (v count : ℕ) : Type 0 where
@@ -145,9 +145,6 @@ goes_on groups labels v count l count' n next low =
       ];
     }
 
-take_all : (xs : List ℕ) (i : ℕ) → length xs ≤ i → take i xs ≡ xs
-take_all xs i h = grind (arith, common_steps)
-
 pub ends : (groups labels : List ℕ) (v count : ℕ) → IsNumbered groups labels v count → length groups ≤ v → IsPartitionOf groups labels
 ends groups labels v count n all = record {
   partition = record {
@@ -164,7 +161,7 @@ ends groups labels v count n all = record {
 pub ends_count : (groups labels : List ℕ) (v count : ℕ) → IsNumbered groups labels v count → length groups ≤ v → count ≡ greatest_label labels
 ends_count groups labels v count n all =
     let full = n.full in
-    n.count_is ∙ ap greatest_label (take_all labels v (omega (arith, all, full)))
+    n.count_is ∙ ap greatest_label (take_whole labels v (omega (arith, all, full)))
 
 pub kept : (groups labels : List ℕ) (count : ℕ) → IsPartitionOf groups labels → count ≡ greatest_label labels → 0 < length groups → length groups ≤ 8192 → IsKeptPartition labels count
 kept groups labels count p e some few =

@@ -16,9 +16,7 @@ use Rattle.pf_graph.proofs.Counting.{parts_most}
 use Rattle.pf_graph.proofs.Refinement.{refinement}
 use Rattle.pf_graph.proofs.Levels.{best_between, best_above, uncrossed_best, single_refines}
 use Rattle.pf_graph.proofs.SamePartition.{same_partition}
-
-below_at_most : (x y : Fraction) → IsBelow x y → IsAtMost x y
-below_at_most x y h = omega (arith, ints, h)
+use Rattle.pf_model.proofs.Facts.{below_at_most}
 
 -- each partition is best at the left end of its piece
 left_best : (g : WeightedGraph) (levels : List Fraction) (partitions : List (List ℕ)) → IsWeightedGraph g → IsBestBetween g levels partitions →

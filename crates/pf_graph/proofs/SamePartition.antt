@@ -88,7 +88,7 @@ agree_below n (suc v) d r p q same low u less =
       | inr there ↦ before u (omega arith)
     ]
 
-take_whole : (xs : List ℕ) (i : ℕ) → length xs ≤ i → take i xs ≡ xs
+pub take_whole : (xs : List ℕ) (i : ℕ) → length xs ≤ i → take i xs ≡ xs
 take_whole xs i h = grind (arith, common_steps)
 
 pub same_partition : (n : ℕ) (d r : List ℕ) → IsPartition n d → IsPartition n r → IsSamePartition n d r → d ≡ r

@@ -1,6 +1,6 @@
 -- A text of the kind `graph` that is accepted gives a graph within the limits of what is asked.
-use Rattle.std.proofs.Common.{◌≡◌, ◌≢◌, ℕ, zero, suc, ◌+◌, ◌<◌, ◌≤◌, Bool, true, false, eqb, List, [], ◌∷◌, ◌++◌, length, get_or, Result, Ok, Err, refl, sym, ap, subst, ◌∙◌, arith, length-append}
-use Rattle.std.specs.Prelude.{ℤ, pos, ◌≤ℤ◌, All, replicate, slice_set, IfOk}
+use Rattle.std.proofs.Common.{◌≡◌, ◌≢◌, ℕ, zero, suc, ◌+◌, ◌<◌, ◌≤◌, eqb, List, [], ◌∷◌, ◌++◌, length, Result, Ok, Err, refl, sym, ap, subst, ◌∙◌, arith, length-append}
+use Rattle.std.specs.Prelude.{ℤ, pos, ◌≤ℤ◌, All, replicate, IfOk}
 use Rattle.std.proofs.lemmas.Int.{ints}
 use Rattle.std.proofs.lemmas.Bool.{eqb-false}
 use Rattle.std.proofs.lemmas.List.{length-set, length-replicate}
@@ -8,8 +8,8 @@ use Rattle.std.proofs.lemmas.List.Elements.{All-nil, All-cons, All-append, All-s
 use Rattle.pf_model.specs.Cut.{has, at_arc}
 use Rattle.pf_text.specs.declared.RuleKind.{RuleKind}
 use Rattle.pf_text.specs.Lines.{Line}
-use Rattle.pf_text.specs.Kinds.{Fits, State, Accepted, problem_of_lines, broken_if}
-use Rattle.pf_text.proofs.KindsLaw.{Keeps, IsInvariant, lines_claims, problem_claims}
+use Rattle.pf_text.specs.Kinds.{Fits, State, Accepted, problem_of_lines}
+use Rattle.pf_text.proofs.KindsLaw.{Keeps, IsInvariant, lines_claims, problem_claims, broken_ok}
 use Rattle.pf_lines.specs.declared.errors.ReadBad.{ReadBad}
 use Rattle.pf_lines.specs.Reading.{Agrees}
 use Rattle.pf_graph.specs.declared.graph.Task.{Task}
@@ -43,10 +43,6 @@ record IsGoodState (task : Task) (state : State Given) : Type 0 where
   pub few : state.counted_lines ≤ edge_count state.header_numbers
 
 -- ---- small facts
-
-broken_ok : {X : Type 0} (test : Bool) (rule : RuleKind) (next : Result X RuleKind) (x : X) → broken_if test rule next ≡ Ok x → (test ≡ false) × (next ≡ Ok x)
-broken_ok true rule next x e = absurd cc
-broken_ok false rule next x e = (refl, e)
 
 index_below : (v : ℤ) (n : ℕ) → pos 1 ≤ℤ v → v ≤ℤ pos n → index v < n
 index_below v n low high = omega (arith, ints, low, high)

@@ -9,7 +9,7 @@ use Rattle.pf_graph.specs.WeightedGraph.{IsWeightedGraph}
 use Rattle.pf_graph.specs.Labels.{label, parts, greatest_label, IsPartition}
 use Rattle.pf_graph.specs.Best.{crossing_of, partition_value, IsBest, level_at, partition_at, IsLevels, IsInPiece}
 use Rattle.pf_graph.specs.Laws.{IsBestBetween}
-use Rattle.pf_graph.specs.Worked.{fraction, two, three, six, four, triangle, one_edge, two_apart, edges_apart, parallel_edges, TriangleStrength, NoTwoParts, NoSkippedLevel, EdgePrincipal, ApartPrincipal, ApartStrength, ParallelStrength}
+use Rattle.pf_graph.specs.Worked.{fraction, two, three, six, four, triangle, one_edge, two_apart, parallel_edges, TriangleStrength, NoTwoParts, NoSkippedLevel, EdgePrincipal, ApartPrincipal, ApartStrength, ParallelStrength}
 use Rattle.pf_graph.proofs.Principal.{principal_from_best}
 
 -- three labels

@@ -18,6 +18,7 @@ use Rattle.pf_closure.proofs.NetLemmas.{closure_capacity, closure_cut}
 use Rattle.pf_closure.proofs.LeastCuts.{cut_is_side, net_cut, least_is_closure, none_closed, none_of}
 use Rattle.pf_layers.specs.Layers.{IsApart}
 use Rattle.pf_layers.proofs.RatioNext.{excess, IsLeastClosure, beside}
+use Rattle.pf_dense.proofs.Soundness.{length_not}
 
 at_cut : (p : ClosureProblem) (x : Fraction) (side : List Bool) → IsNetworkCut (closure_net p) side → IsCut (network_at (closure_net p) x) side
 at_cut p x side c = record { full = c.full; with_source = c.with_source; without_sink = c.without_sink }
@@ -80,10 +81,6 @@ outside_apart set = record { outside = off set }
     off (true ∷ set) zero h = cc
     off (false ∷ set) zero h = refl
     off (b ∷ set) (suc v) h = off set v h
-
-length_not : (set : List Bool) → length (map not set) ≡ length set
-length_not [] = refl
-length_not (b ∷ set) = ap suc (length_not set)
 
 whole_on : (set : List Bool) (v : ℕ) → v < length set → has (union set (map not set)) v ≡ true
 whole_on set v low = has-union set (map not set) v ∙ either (has set v) (has (map not set) v) (has_not set v low)

@@ -6,6 +6,8 @@ use Rattle.pf_model.specs.Cut.{has, at_arc, union, intersection, IsContained, su
 use Rattle.pf_graph.specs.WeightedGraph.{cost_of}
 use Rattle.pf_closure.specs.Problem.{sum_of_side}
 use Rattle.pf_layers.specs.Layers.{IsApart}
+use Rattle.pf_model.proofs.Facts.{none_before}
+use Rattle.pf_model.proofs.Sums.{none_after}
 
 -- of two sets that have no element in common
 union_step : (p q : Bool) (x a b c : ℤ) → (q ≡ true → p ≡ false) → c ≡ a +ℤ b → cond (p || q) x (pos 0) +ℤ c ≡ (cond p x (pos 0) +ℤ a) +ℤ (cond q x (pos 0) +ℤ b)
@@ -13,9 +15,6 @@ union_step true true x a b c apart e = let h = apart refl in cc
 union_step true false x a b c apart e = omega (arith, ints, e)
 union_step false true x a b c apart e = omega (arith, ints, e)
 union_step false false x a b c apart e = omega (arith, ints, e)
-
-none_before : (a : ℤ) → a ≡ pos 0 +ℤ a
-none_before a = omega (arith, ints)
 
 none_after : (a : ℤ) → a ≡ a +ℤ pos 0
 none_after a = omega (arith, ints)
@@ -45,12 +44,9 @@ modular_step true false x a b c d e = omega (arith, ints, e)
 modular_step false true x a b c d e = omega (arith, ints, e)
 modular_step false false x a b c d e = omega (arith, ints, e)
 
-swapped : (a : ℤ) → a +ℤ pos 0 ≡ pos 0 +ℤ a
-swapped a = omega (arith, ints)
-
 pub sum_modular : (first second : List Bool) (xs : List ℤ) →
     sum_of_side (union first second) xs +ℤ sum_of_side (intersection first second) xs ≡ sum_of_side first xs +ℤ sum_of_side second xs
-sum_modular [] second xs = swapped (sum_of_side second xs)
+sum_modular [] second xs = none_after (sum_of_side second xs)
 sum_modular (p ∷ first) [] xs = refl
 sum_modular (p ∷ first) (q ∷ second) [] = refl
 sum_modular (p ∷ first) (q ∷ second) (x ∷ xs) = modular_step p q x _ _ _ _ (sum_modular first second xs)

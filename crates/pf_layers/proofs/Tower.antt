@@ -1,5 +1,5 @@
 -- Layers between the sets of a growing chain.
-use Rattle.std.proofs.Common.{◌≡◌, ℕ, zero, suc, ◌<◌, List, [], ◌∷◌, length, refl, Bool, true, false, ◌||◌, arith, ap, sym, ◌∙◌, inl, inr, subst}
+use Rattle.std.proofs.Common.{◌≡◌, ℕ, suc, ◌<◌, List, [], ◌∷◌, length, refl, Bool, true, false, ◌||◌, arith, ap, sym, ◌∙◌, inl, inr, subst}
 use Rattle.std.specs.Prelude.{ℤ, pos, int_lt, ◌⊎◌}
 use Rattle.std.proofs.lemmas.Int.{ints}
 use Rattle.std.proofs.lemmas.Bool.{cases_Bool, both_ways}
@@ -9,7 +9,9 @@ use Rattle.pf_model.proofs.Exchange.{has-union, length-union}
 use Rattle.pf_model.proofs.Unique.{same_sides}
 use Rattle.pf_layers.specs.Layers.{before, layer, level_at, IsApart, AreLayers}
 use Rattle.pf_layers.specs.Reading.{IsNumbered}
-use Rattle.pf_layers.proofs.NumberingLemmas.{before_more, layer_apart, layer_length, less_true, has_map}
+use Rattle.pf_layers.proofs.NumberingLemmas.{before_more, layer_apart, layer_length, has_map}
+use Rattle.pf_dense.proofs.NewtonSteps.{all_off}
+use Rattle.pf_ratio.proofs.MarkingLemmas.{less_true}
 
 -- each set of the right length between two neighbours is the next
 pub record AreSteps (n : ℕ) (IsNext : List Bool → Fraction → List Bool → Type 0) (sets : ℕ → List Bool) (layers : List ℤ) (levels : List Fraction) : Type 0 where
@@ -37,10 +39,6 @@ tower n IsNext sets layers levels some m s = record {
 pub record IsSomewhere (set : List Bool) : Type 0 where
   pub place : ℕ
   pub held : has set place ≡ true
-
-all_off : (b : Bool) (set : List Bool) → b ≡ false → ((v : ℕ) → has set v ≡ false) → (v : ℕ) → has (b ∷ set) v ≡ false
-all_off b set off none zero = off
-all_off b set off none (suc v) = none v
 
 some_or_none : (set : List Bool) → IsSomewhere set ⊎ ((v : ℕ) → has set v ≡ false)
 some_or_none [] = inr (λ v. refl)

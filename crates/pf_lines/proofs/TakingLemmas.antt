@@ -1,12 +1,12 @@
 -- What readers conclude that take a piece from the front of a text.
-use Rattle.std.proofs.Common.{◌≡◌, ◌≢◌, ℕ, suc, ◌<◌, ◌^◌, Bool, true, cond, List, [], ◌∷◌, ◌++◌, get_or, refl, sym, ap, ◌∙◌, arith}
+use Rattle.std.proofs.Common.{◌≡◌, ◌≢◌, ℕ, suc, ◌<◌, ◌^◌, Bool, true, cond, List, [], ◌∷◌, ◌++◌, refl, sym, ap, ◌∙◌}
 use Rattle.std.specs.Prelude.{ℤ, pos, negsuc, nat_abs}
 use Rattle.std.specs.List.{list_all, take_while}
 use Rattle.std.specs.Fmt.{decimal, signed_decimal}
 use Rattle.std.proofs.lemmas.List.{append-nil, append_cancel_left}
 use Rattle.std.proofs.lemmas.List.Sums.{take_while-cons}
 use Rattle.pf_text.specs.Numbers.{is_digit, number_front}
-use Rattle.pf_text.proofs.NumbersLemmas.{digit_bounds, first_digit, decimal_reads, number_front-plain, number_front-minus, number_front-signed_decimal, one_number}
+use Rattle.pf_text.proofs.NumbersLemmas.{first_digit, decimal_reads, number_front-plain, number_front-minus, number_front-signed_decimal, one_number, not_minus}
 use Rattle.pf_lines.specs.Taking.{Stops}
 
 -- ---- a number in front
@@ -18,14 +18,10 @@ all_digits (d ∷ digits) all =
     let first : is_digit d ≡ true = split.0 in
     take_while-cons is_digit d digits ∙ ap (λ (t : Bool). cond t (d ∷ take_while is_digit digits) []) first ∙ ap (λ (ds : List ℕ). d ∷ ds) (all_digits digits split.1)
 
-no_minus : (digits : List ℕ) → list_all is_digit digits ≡ true → get_or digits 0 0 ≢ 45
-no_minus [] all = λ e. absurd (omega arith)
-no_minus (d ∷ digits) all = λ e. absurd (omega (arith, e, (digit_bounds d (first_digit d digits all).0).0))
-
 number_alone : (n : ℤ) → nat_abs n < 10 ^ 64 → number_front (signed_decimal n) ≡ signed_decimal n
 number_alone (pos n) few =
     let all = (decimal_reads n few).all in
-    number_front-plain (decimal n) (no_minus (decimal n) all) ∙ all_digits (decimal n) all
+    number_front-plain (decimal n) (not_minus (decimal n) all) ∙ all_digits (decimal n) all
 number_alone (negsuc n) few =
     let all = (decimal_reads (suc n) few).all in
     number_front-minus (decimal (suc n)) ∙ ap (λ (ds : List ℕ). 45 ∷ ds) (all_digits (decimal (suc n)) all)

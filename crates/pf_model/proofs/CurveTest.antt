@@ -1,6 +1,6 @@
 -- Tests that compute whether lists certify a curve, for networks that are written out.
 use Rattle.std.proofs.Common.{◌≡◌, ℕ, zero, suc, ◌+◌, ◌-◌, ◌<◌, ◌≤◌, List, [], ◌∷◌, length, set, refl, Bool, true, false, not, ◌&&◌, eqb, arith, ap, ◌∙◌, inl, inr, subst}
-use Rattle.std.specs.Prelude.{ℤ, ◌≤ℤ◌, ◌<ℤ◌, pos, int_le, int_lt}
+use Rattle.std.specs.Prelude.{ℤ, ◌<ℤ◌, pos, int_le, int_lt}
 use Rattle.std.specs.Ordering.{int_eq}
 use Rattle.std.proofs.lemmas.Int.{ints}
 use Rattle.std.proofs.lemmas.Bool.{and_parts, eqb-true, cases_lt}
@@ -17,6 +17,7 @@ use Rattle.pf_model.proofs.Start.{only_source_side}
 use Rattle.pf_model.proofs.Exists.{IsReached, NoneAt, none_leaves, source_reached, reach_when_closed}
 use Rattle.pf_model.proofs.FlowTest.{flow_test, flow_from_test}
 use Rattle.pf_model.proofs.Lowest.{below_test}
+use Rattle.pf_model.proofs.Affine.{le_told}
 
 -- a test of each number below k
 abbrev pub all_below : (ℕ → Bool) → ℕ → Bool
@@ -37,9 +38,6 @@ less_told x y h = omega (arith, ints, h)
 
 less_tells : (x y : ℤ) → x <ℤ y → int_lt x y ≡ true
 less_tells x y h = grind (arith, ints)
-
-most_told : (x y : ℤ) → int_le x y ≡ true → x ≤ℤ y
-most_told x y h = grind (arith, ints)
 
 -- what the source reaches: the arcs are gone through once for each node
 abbrev pub mark_if : Bool → ℕ → List Bool → List Bool
@@ -205,7 +203,7 @@ certified_by_tests net points cuts flows t = record {
   division = record {
     some = t.some;
     count = t.point_count;
-    parameters = λ i low. most_told _ _ (all_told (λ i. int_le (pos 1) (point_at net points i).q) (length points) t.parameters i low);
+    parameters = λ i low. le_told _ _ (all_told (λ i. int_le (pos 1) (point_at net points i).q) (length points) t.parameters i low);
     low = t.low;
     high = t.high;
     rise = λ i low.

@@ -15,7 +15,7 @@ use Rattle.pf_model.specs.Mirror.{negative, other_sense, mirror, turned_points}
 use Rattle.pf_model.proofs.Mirror.{negated_twice, below_turned, at_most_turned, equal_turned, at_mirror, slope_turned, cut_turned, point_turned, mirror_twice}
 
 -- places in a list that was turned round
-place_turned : {X : Type 0} (xs : List X) (d : X) (i j : ℕ) → i + j + 1 ≡ length xs → get_or (reverse xs) i d ≡ get_or xs j d
+pub place_turned : {X : Type 0} (xs : List X) (d : X) (i j : ℕ) → i + j + 1 ≡ length xs → get_or (reverse xs) i d ≡ get_or xs j d
 place_turned xs d i j e =
     get_or-reverse xs i d (omega (arith, e)) ∙ ap (λ k. get_or xs k d) (let f : length xs - 1 - i ≡ j = omega (arith, e) in f)
 

@@ -1,6 +1,6 @@
 -- The numbers of a line of each form, and what its rules make of them.
-use Rattle.std.proofs.Common.{◌≡◌, ℕ, ◌<◌, ◌≤◌, ◌^◌, not, List, [], ◌∷◌, get_or, Some, Ok, refl, ap, ◌∙◌, arith, to_z, of_z, w64}
-use Rattle.std.specs.Prelude.{ℤ, pos, nat_abs, is_some}
+use Rattle.std.proofs.Common.{◌≡◌, ℕ, ◌<◌, ◌^◌, not, List, [], ◌∷◌, Some, Ok, refl, ap, ◌∙◌, arith}
+use Rattle.std.specs.Prelude.{ℤ, is_some}
 use Rattle.std.proofs.lemmas.Int.{ints}
 use Rattle.pf_model.specs.declared.Sense.{Sense}
 use Rattle.pf_model.specs.Fraction.{Fraction, is_below}
@@ -8,17 +8,7 @@ use Rattle.pf_text.specs.declared.RuleKind.TheVariants.{Repeated, Interval}
 use Rattle.pf_text.specs.Kinds.{Fits, broken_if}
 use Rattle.pf_par.specs.Text.{Given, fraction, node_count, node_index, interval_form, interval_rules, sense_or_rising, arc_form, arc_rules, arc_rules_by}
 use Rattle.pf_par.specs.Rules.{IsEnd}
-
--- a number of at most this size comes back from its bits
-back : (z : ℤ) → nat_abs z ≤ 2 ^ 33 → to_z w64 (of_z w64 z) ≡ z
-back z h = omega (arith, ints, h)
-
-abbrev pub bits : ℤ → ℤ
-bits z = to_z w64 (of_z w64 z)
-
--- the number at this place
-abbrev pub at : List ℤ → ℕ → ℤ
-at numbers i = get_or numbers i (pos 0)
+use Rattle.pf_lines.proofs.LineNumbers.{at, back, bits}
 
 end_back : (p q : ℤ) → IsEnd p q → (bits p ≡ p) × (bits q ≡ q)
 end_back p q is =

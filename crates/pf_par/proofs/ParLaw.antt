@@ -1,8 +1,7 @@
 -- A text of the kind `par` that is accepted gives a monotone network within the limits of texts.
-use Rattle.std.proofs.Common.{◌≡◌, ℕ, ◌+◌, ◌<◌, ◌≤◌, Bool, true, false, not, ◌||◌, List, [], ◌∷◌, ◌++◌, length, Option, Some, None, Result, Ok, refl, sym, ap, subst, ◌∙◌, arith, length-append}
+use Rattle.std.proofs.Common.{◌≡◌, ℕ, ◌+◌, ◌<◌, ◌≤◌, Bool, true, false, not, ◌||◌, List, [], ◌∷◌, ◌++◌, length, Option, Some, None, Ok, refl, sym, ap, subst, ◌∙◌, arith, length-append}
 use Rattle.std.specs.Prelude.{◌≢◌, ℤ, pos, neg_ℤ, ◌≤ℤ◌, int_lt, is_some, ◌==◌, All, IfSome}
 use Rattle.std.proofs.lemmas.Bool.{eq-eqb, eqb-false}
-use Rattle.std.proofs.lemmas.Bool.Decides.{nat_tests}
 use Rattle.std.proofs.lemmas.Int.{ints}
 use Rattle.std.proofs.lemmas.List.Elements.{All-nil, All-cons, All-append}
 use Rattle.pf_model.specs.declared.AffineArc.{AffineArc}
@@ -13,13 +12,13 @@ use Rattle.pf_model.specs.Network.{Network, IsMonotone, capacity_at, keeps_slope
 use Rattle.pf_model.proofs.Lowest.{below_test, lowest_is}
 use Rattle.pf_par.specs.declared.given.End.{End}
 use Rattle.pf_par.specs.declared.given.End.TheVariants.{Source, Sink}
-use Rattle.pf_text.specs.declared.RuleKind.{RuleKind}
 use Rattle.pf_text.specs.Lines.{Line}
-use Rattle.pf_text.specs.Kinds.{Fits, State, Accepted, problem_of_lines, broken_if}
+use Rattle.pf_text.specs.Kinds.{Fits, State, Accepted, problem_of_lines}
 use Rattle.pf_par.specs.Text.{ParameterInterval, Given, par, sense_or_rising, sense_form, sense_rules, par_header, node_count, arc_count, node_index, is_given, fraction, interval_form, interval_rules, end_given, other_given, with_end, end_form, end_rules, arc_form, arc_rules, arc_rules_by, network_by}
 use Rattle.pf_text.specs.Numbers.{billion}
 use Rattle.pf_par.specs.Laws.{IsTextFraction, IsTextArc, IsTextNetwork, AcceptedIsMonotone, AcceptedIsTextNetwork}
-use Rattle.pf_text.proofs.KindsLaw.{Keeps, IsInvariant, lines_claims, problem_claims}
+use Rattle.pf_text.proofs.KindsLaw.{Keeps, IsInvariant, lines_claims, problem_claims, broken_ok, not_false}
+use Rattle.pf_model.proofs.Facts.{not_zero}
 
 -- ---- what was given
 
@@ -59,14 +58,6 @@ record IsGoodState (state : State Given) : Type 0 where
   pub few : state.counted_lines ≤ arc_count state.header_numbers
 
 -- ---- small facts
-
-broken_ok : {X : Type 0} (test : Bool) (rule : RuleKind) (next : Result X RuleKind) (x : X) → broken_if test rule next ≡ Ok x → (test ≡ false) × (next ≡ Ok x)
-broken_ok true rule next x e = absurd cc
-broken_ok false rule next x e = (refl, e)
-
-not_false : (b : Bool) → not b ≡ false → b ≡ true
-not_false true e = refl
-not_false false e = absurd cc
 
 none_of : {X : Type 0} (o : Option X) → is_some o ≡ false → o ≡ None
 none_of None e = refl
@@ -174,10 +165,6 @@ end_kept end n given next v good small e =
     let b = broken_ok (is_given (other_given end given) (node_index v)) _ _ next a.1 in
     let same : with_end end (node_index v) given ≡ next = (let e' = b.1 in cc) in
     (subst (IsGoodGiven n) same (good_end end n (node_index v) given good small a.0 b.0), ap (λ (g : Given). g.arcs) (sym same) ∙ same_arcs end (node_index v) given)
-
--- a sense is said before the first arc
-not_zero : (n : ℕ) → 1 ≤ n → (n == 0) ≡ false
-not_zero n some = grind (arith, nat_tests)
 
 no_arcs : (arcs : List AffineArc) → not (length arcs == 0) ≡ false → arcs ≡ []
 no_arcs [] e = refl

@@ -6,7 +6,7 @@ use Rattle.pf_model.specs.Cut.{has}
 use Rattle.pf_model.specs.Network.{IsNetworkCut}
 use Rattle.pf_piece.specs.Piece.{Between, AreNested, IsLift, is_inner, inner_before, place, piece_of}
 use Rattle.pf_piece.specs.Laws.{IsCutBetween, IsLiftOfOne}
-use Rattle.pf_piece.proofs.Places.{inner_below, place_in, place_out, place_inner}
+use Rattle.pf_piece.proofs.Places.{inner_below, place_in, place_out, place_inner, is_inner_from}
 
 -- what a side says of the inner nodes below v, in their order
 abbrev pub chosen : List Bool → List Bool → List Bool → ℕ → List Bool
@@ -73,9 +73,6 @@ inner_parts : (s l : Bool) → (not s && l) ≡ true → (s ≡ false) × (l ≡
 inner_parts true l e = absurd cc
 inner_parts false l e = (refl, e)
 
-inner_from : (s l : Bool) → s ≡ false → l ≡ true → (not s && l) ≡ true
-inner_from s l e f = rw (e, f) refl
-
 -- the cut of the piece
 abbrev pub choice : Between → List Bool → List Bool
 choice part whole = true ∷ (false ∷ chosen part.small part.large whole part.net.nodes)
@@ -91,7 +88,7 @@ choice_each part whole h v low = elim (cases_Bool (has part.small v)) [
   | inl e ↦ h.above v e ∙ sym (ap (has (choice part whole)) (place_in part.small part.large v e))
   | inr e ↦ elim (cases_Bool (has part.large v)) [
     | inl f ↦
-        let inner = inner_from (has part.small v) (has part.large v) e f in
+        let inner = is_inner_from (has part.small v) (has part.large v) e f in
         sym (chosen_at part.small part.large whole part.net.nodes v low inner)
         ∙ sym (choice_later part whole (inner_before part.small part.large v))
         ∙ sym (ap (has (choice part whole)) (place_inner part.small part.large v e f))

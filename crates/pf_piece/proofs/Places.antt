@@ -24,7 +24,7 @@ inner_below small large v n low e =
     let rest = inner_grows small large (suc v) n (omega arith) in
     omega (arith, next, rest)
 
-is_inner_from : (s l : Bool) → s ≡ false → l ≡ true → (not s && l) ≡ true
+pub is_inner_from : (s l : Bool) → s ≡ false → l ≡ true → (not s && l) ≡ true
 is_inner_from s l e f = rw (e, f) refl
 
 below_step : (s l : Bool) (k n : ℕ) → (s ≡ false → l ≡ true → k < n) → cond s 0 (cond l (k + 2) 1) < n + 2

@@ -7,7 +7,7 @@ use Rattle.pf_model.specs.Fraction.{Fraction}
 use Rattle.pf_model.specs.Cut.{FlowNetwork, IsCut, IsLeast, IsSmallestLeast, IsContained, sum_where, has, capacity}
 use Rattle.pf_model.specs.Network.{Network, IsMonotone, IsInInterval, IsNetworkCut, network_at, capacity_at, ends_of}
 use Rattle.pf_model.proofs.Affine.{nested, proper_at}
-use Rattle.pf_model.proofs.Certificate.{at_most_trans}
+use Rattle.pf_model.proofs.Certificate.{at_most_trans, cut_at_point}
 use Rattle.pf_model.proofs.Exists.{greatest_exists}
 use Rattle.pf_piece.specs.Piece.{Between, AreNested, IsLift, place, piece_of, core_of}
 use Rattle.pf_piece.specs.Laws.{AreEndsAt}
@@ -16,9 +16,6 @@ use Rattle.pf_piece.proofs.Choice.{between_is_lift}
 
 network_cut : (net : Network) (x : Fraction) (side : List Bool) → IsCut (network_at net x) side → IsNetworkCut net side
 network_cut net x side c = record { full = c.full; with_source = c.with_source; without_sink = c.without_sink }
-
-cut_at : (net : Network) (x : Fraction) (side : List Bool) → IsNetworkCut net side → IsCut (network_at net x) side
-cut_at net x side c = record { full = c.full; with_source = c.with_source; without_sink = c.without_sink }
 
 inside_at : (part : Between) (x : Fraction) → IsMonotone part.net → AreEndsAt part x → IsInInterval part.net x
 inside_at part x m ends = record {
@@ -50,10 +47,10 @@ smallest_lifts part x side whole m rising ends s lift =
     let cut = network_cut (piece_of part) x side s.least.cut in
     let mine = capacity_lifts part x side whole nests cut lift in
     let theirs = capacity_lifts part x one.side solved.side nests one.cut one.lift in
-    let whole_cut = cut_at part.net x whole (lift_is_between part side whole nests cut lift).cut in
+    let whole_cut = cut_at_point part.net x whole (lift_is_between part side whole nests cut lift).cut in
     let less = best.least.least whole whole_cut in
     let one_least : IsLeast (network_at (piece_of part) x) one.side = record {
-      cut = cut_at (piece_of part) x one.side one.cut;
+      cut = cut_at_point (piece_of part) x one.side one.cut;
       least = λ other o. let h = s.least.least other o in omega (arith, ints, h, mine, theirs, less);
     } in
     let smaller = s.smallest one.side one_least in

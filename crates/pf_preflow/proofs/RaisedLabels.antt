@@ -75,10 +75,10 @@ raise_starts labels other steps = record {
   less = λ g flow small w low low' full. (low, omega arith);
 }
 
-at_place : (labels : List ℕ) (v x u : ℕ) → v < length labels → u ≡ v → get_or (set labels v x) u 0 ≡ x
+pub at_place : (labels : List ℕ) (v x u : ℕ) → v < length labels → u ≡ v → get_or (set labels v x) u 0 ≡ x
 at_place labels v x u low same = rw (same, get_or-set_same) refl
 
-off_place : (labels : List ℕ) (v x u : ℕ) → u ≢ v → get_or (set labels v x) u 0 ≡ get_or labels u 0
+pub off_place : (labels : List ℕ) (v x u : ℕ) → u ≢ v → get_or (set labels v x) u 0 ≡ get_or labels u 0
 off_place labels v x u other = let ne : u ≢ v = other in rw get_or-set_other refl
 
 low_set : (n : ℕ) (now other : List ℕ) (i : ℕ) → AreLow n now → AreLow n other → i < length now → AreLow n (set now i (get_or other i 0))

@@ -8,9 +8,10 @@ use Rattle.pf_model.specs.Cut.{FlowNetwork, IsProper, at_arc, tail_at, head_at}
 use Rattle.pf_model.specs.Flow.{IsWithin, IsPreflow}
 use Rattle.pf_model.specs.Residual.{IsResidual, HasValidLabels}
 use Rattle.pf_model.proofs.Sums.{sum_where_most}
-use Rattle.pf_model.proofs.Start.{zeros_are_flow}
+use Rattle.pf_model.proofs.Start.{zeros_are_flow, at_none}
 use Rattle.pf_preflow.specs.Engine.{AreLow}
 use Rattle.pf_preflow.specs.Starting.{IsStarted, started, restarted, first_labels}
+use Rattle.pf_model.proofs.Facts.{set_here, set_there}
 
 -- what such a list of numbers keeps of an earlier one; an arc from the source to itself carries what it may
 record IsFilled (g : FlowNetwork) (flow after : List ℤ) : Type 0 where
@@ -142,11 +143,6 @@ is_restarted g flow after labels proper p full each e = filled_start g flow afte
   other = λ i h from to. each i h ∙ rw (ne_eqb (head_at g i) g.source to, ne_eqb (tail_at g i) g.source from) refl;
 }) e
 
-none_carried : (n i : ℕ) → at_arc (replicate n (pos 0)) i ≡ pos 0
-none_carried zero i = refl
-none_carried (suc n) zero = refl
-none_carried (suc n) (suc i) = none_carried n i
-
 empty_preflow : (g : FlowNetwork) → IsProper g → IsPreflow g (replicate (length g.ends) (pos 0))
 empty_preflow g proper =
     let f = zeros_are_flow g (replicate (length g.ends) (pos 0)) refl proper.low in
@@ -162,16 +158,10 @@ is_started g after labels proper full each e = filled_start g (replicate (length
   };
   out = λ i h from to. each i h ∙ rw (eq-eqb (tail_at g i) g.source from) refl;
   into = λ i h to from. each i h ∙ rw (ne_eqb (tail_at g i) g.source from) refl;
-  other = λ i h from to. each i h ∙ (rw (ne_eqb (tail_at g i) g.source from) refl ∙ sym (none_carried (length g.ends) i));
+  other = λ i h from to. each i h ∙ (rw (ne_eqb (tail_at g i) g.source from) refl ∙ sym (at_none (length g.ends) i));
 }) e
 
 -- ---- one arc of the loop
-
-pub set_here : (now after : List ℤ) (i : ℕ) (x : ℤ) → after ≡ set now i x → i < length now → at_arc after i ≡ x
-set_here now after i x e low = rw (e, get_or-set_same) refl
-
-pub set_there : (now after : List ℤ) (i k : ℕ) (x : ℤ) → after ≡ set now i x → k ≢ i → at_arc after k ≡ at_arc now k
-set_there now after i k x e other = let ne : k ≢ i = other in rw (e, get_or-set_other) refl
 
 -- the numbers before an index are as wanted, and those from it on as they were
 pub record IsPartFilled (wanted : ℕ → ℤ) (old now : List ℤ) (i : ℕ) : Type 0 where

@@ -6,28 +6,15 @@ use Rattle.std.proofs.lemmas.Int.{ints, by_lt_z}
 use Rattle.pf_model.specs.Cut.{at_arc}
 use Rattle.pf_model.specs.Fraction.{Fraction, IsParameter}
 use Rattle.pf_model.proofs.Integers.{mul_add, mul_comm, mul_nonneg, mul_most, mul_most_inverse}
-use Rattle.pf_model.proofs.Sums.{sum_where_none}
 use Rattle.pf_graph.specs.WeightedGraph.{WeightedGraph}
-use Rattle.pf_graph.specs.Labels.{label, parts, crosses, crossing, crossing_edges, IsPartition}
+use Rattle.pf_graph.specs.Labels.{parts, crosses, crossing, crossing_edges, IsPartition}
 use Rattle.pf_graph.specs.Best.{crossing_of, IsBest}
 use Rattle.pf_graph.specs.Limits.{IsWithinLimits}
 use Rattle.pf_graph.proofs.Counting.{parts_most}
-use Rattle.pf_graph.proofs.Levels.{crossing_low, one_part}
+use Rattle.pf_graph.proofs.Levels.{crossing_low, one_part, crossing_one, length_one}
 use Rattle.pf_reinforce.specs.Reinforcement.{IsBlocked}
 use Rattle.pf_reinforce.specs.Raising.{IsConnectedAbove}
 use Rattle.pf_reinforce.proofs.Certificate.{uncrossed_sum}
-
-length_one : (n : ℕ) → length (one_part n) ≡ n
-length_one zero = refl
-length_one (suc n) = ap suc (length_one n)
-
-label_one : (n v : ℕ) → label (one_part n) v ≡ 0
-label_one zero v = refl
-label_one (suc n) zero = refl
-label_one (suc n) (suc v) = label_one n v
-
-crossing_one : (g : WeightedGraph) (n : ℕ) → crossing_of g (one_part n) ≡ pos 0
-crossing_one g n = sum_where_none (crosses (one_part n)) g.ends g.weights (λ edge. rw (label_one n edge.0, label_one n edge.1) refl)
 
 parts_one : (n : ℕ) → parts (one_part (suc n)) ≡ 1
 parts_one zero = refl

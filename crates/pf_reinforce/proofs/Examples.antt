@@ -6,6 +6,7 @@ use Rattle.std.proofs.lemmas.Int.{ints}
 use Rattle.pf_model.specs.Cut.{at_arc}
 use Rattle.pf_reinforce.specs.Text.{added_text, blocked_text}
 use Rattle.pf_reinforce.specs.Worked.{TriangleIsCertified, TwoPartsServe, CheapEdgeCrosses, OtherCost, DearEdge, ThresholdLeftOut, EdgeIsCertified, ZeroIsReached, ZeroIsNotBlocked, OnePartBlocksNot, TriangleText, EdgeText, PairsText}
+use Rattle.pf_model.proofs.Facts.{below_one, below_three, below_two}
 
 none : (P : ℕ → Type 0) → (k : ℕ) → k < 0 → P k
 none P k low = absurd (omega (arith, low))
@@ -13,24 +14,9 @@ none P k low = absurd (omega (arith, low))
 later : (P : ℕ → Type 0) → (k : ℕ) → suc k < 1 → P k
 later P k low = absurd (omega (arith, low))
 
-one : (P : ℕ → Type 0) → P 0 → (k : ℕ) → k < 1 → P k
-one P a zero low = a
-one P a (suc k) low = absurd (omega (arith, low))
-
 first : (P : ℕ → Type 0) → P 0 → (k : ℕ) → suc k < 2 → P k
 first P a zero low = a
 first P a (suc k) low = absurd (omega (arith, low))
-
-two : (P : ℕ → Type 0) → P 0 → P 1 → (k : ℕ) → k < 2 → P k
-two P a b zero low = a
-two P a b (suc zero) low = b
-two P a b (suc (suc k)) low = absurd (omega (arith, low))
-
-three : (P : ℕ → Type 0) → P 0 → P 1 → P 2 → (k : ℕ) → k < 3 → P k
-three P a b c zero low = a
-three P a b c (suc zero) low = b
-three P a b c (suc (suc zero)) low = c
-three P a b c (suc (suc (suc k))) low = absurd (omega (arith, low))
 
 pub triangle_certified : TriangleIsCertified
 triangle_certified = record {
@@ -38,42 +24,42 @@ triangle_certified = record {
   level = omega (arith, ints);
   reinforced = record {
     added_full = refl;
-    added_low = three (λ k. _) (omega (arith, ints)) (omega (arith, ints)) (omega (arith, ints));
+    added_low = below_three (λ k. _) (omega (arith, ints)) (omega (arith, ints)) (omega (arith, ints));
     vector_full = refl;
-    vector_low = three (λ k. _) (omega (arith, ints)) (omega (arith, ints)) (omega (arith, ints));
-    vector_high = three (λ k. _) (omega (arith, ints)) (omega (arith, ints)) (omega (arith, ints));
+    vector_low = below_three (λ k. _) (omega (arith, ints)) (omega (arith, ints)) (omega (arith, ints));
+    vector_high = below_three (λ k. _) (omega (arith, ints)) (omega (arith, ints)) (omega (arith, ints));
   };
-  splits_are = three (λ k. _)
+  splits_are = below_three (λ k. _)
       (record {
         full = refl;
-        low = three (λ k. _) (omega (arith, ints)) (omega (arith, ints)) (omega (arith, ints));
-        high = three (λ k. _) (omega (arith, ints)) (omega (arith, ints)) (omega (arith, ints));
+        low = below_three (λ k. _) (omega (arith, ints)) (omega (arith, ints)) (omega (arith, ints));
+        high = below_three (λ k. _) (omega (arith, ints)) (omega (arith, ints)) (omega (arith, ints));
         root_none = refl;
-        most = three (λ k. _) (omega (arith, ints)) (omega (arith, ints)) (omega (arith, ints));
+        most = below_three (λ k. _) (omega (arith, ints)) (omega (arith, ints)) (omega (arith, ints));
       })
       (record {
         full = refl;
-        low = three (λ k. _) (omega (arith, ints)) (omega (arith, ints)) (omega (arith, ints));
-        high = three (λ k. _) (omega (arith, ints)) (omega (arith, ints)) (omega (arith, ints));
+        low = below_three (λ k. _) (omega (arith, ints)) (omega (arith, ints)) (omega (arith, ints));
+        high = below_three (λ k. _) (omega (arith, ints)) (omega (arith, ints)) (omega (arith, ints));
         root_none = refl;
-        most = three (λ k. _) (omega (arith, ints)) (omega (arith, ints)) (omega (arith, ints));
+        most = below_three (λ k. _) (omega (arith, ints)) (omega (arith, ints)) (omega (arith, ints));
       })
       (record {
         full = refl;
-        low = three (λ k. _) (omega (arith, ints)) (omega (arith, ints)) (omega (arith, ints));
-        high = three (λ k. _) (omega (arith, ints)) (omega (arith, ints)) (omega (arith, ints));
+        low = below_three (λ k. _) (omega (arith, ints)) (omega (arith, ints)) (omega (arith, ints));
+        high = below_three (λ k. _) (omega (arith, ints)) (omega (arith, ints)) (omega (arith, ints));
         root_none = refl;
-        most = three (λ k. _) (omega (arith, ints)) (omega (arith, ints)) (omega (arith, ints));
+        most = below_three (λ k. _) (omega (arith, ints)) (omega (arith, ints)) (omega (arith, ints));
       });
   sum = refl;
   thresholds_are = record {
     rise = first (λ k. _) (omega (arith, ints));
-    occur = two (λ k. _) (record { place = 1; in_range = omega arith; there = refl }) (record { place = 0; in_range = omega arith; there = refl });
-    all = three (λ k. _) (record { place = 1; in_range = omega arith; there = refl }) (record { place = 0; in_range = omega arith; there = refl }) (record { place = 1; in_range = omega arith; there = refl });
+    occur = below_two (λ k. _) (record { place = 1; in_range = omega arith; there = refl }) (record { place = 0; in_range = omega arith; there = refl });
+    all = below_three (λ k. _) (record { place = 1; in_range = omega arith; there = refl }) (record { place = 0; in_range = omega arith; there = refl }) (record { place = 1; in_range = omega arith; there = refl });
   };
-  each = two (λ k. _)
-      (record { full = refl; dear = three (λ k. _) (λ e. omega (arith, ints)) (λ e. omega (arith, ints)) (λ e. omega (arith, ints)); sum = refl })
-      (record { full = refl; dear = three (λ k. _) (λ e. omega (arith, ints)) (λ e. absurd (cc)) (λ e. omega (arith, ints)); sum = refl });
+  each = below_two (λ k. _)
+      (record { full = refl; dear = below_three (λ k. _) (λ e. omega (arith, ints)) (λ e. omega (arith, ints)) (λ e. omega (arith, ints)); sum = refl })
+      (record { full = refl; dear = below_three (λ k. _) (λ e. omega (arith, ints)) (λ e. absurd (cc)) (λ e. omega (arith, ints)); sum = refl });
   cost_is = refl;
 }
 
@@ -85,9 +71,9 @@ two_parts_serve = record {
   splits_are = triangle_certified.splits_are;
   sum = refl;
   thresholds_are = triangle_certified.thresholds_are;
-  each = two (λ k. _)
-      (record { full = refl; dear = three (λ k. _) (λ e. omega (arith, ints)) (λ e. omega (arith, ints)) (λ e. omega (arith, ints)); sum = refl })
-      (record { full = refl; dear = three (λ k. _) (λ e. omega (arith, ints)) (λ e. absurd (cc)) (λ e. omega (arith, ints)); sum = refl });
+  each = below_two (λ k. _)
+      (record { full = refl; dear = below_three (λ k. _) (λ e. omega (arith, ints)) (λ e. omega (arith, ints)) (λ e. omega (arith, ints)); sum = refl })
+      (record { full = refl; dear = below_three (λ k. _) (λ e. omega (arith, ints)) (λ e. absurd (cc)) (λ e. omega (arith, ints)); sum = refl });
   cost_is = refl;
 }
 
@@ -113,33 +99,33 @@ edge_certified = record {
   level = omega (arith, ints);
   reinforced = record {
     added_full = refl;
-    added_low = one (λ k. _) (omega (arith, ints));
+    added_low = below_one (λ k. _) (omega (arith, ints));
     vector_full = refl;
-    vector_low = one (λ k. _) (omega (arith, ints));
-    vector_high = one (λ k. _) (omega (arith, ints));
+    vector_low = below_one (λ k. _) (omega (arith, ints));
+    vector_high = below_one (λ k. _) (omega (arith, ints));
   };
-  splits_are = two (λ k. _)
+  splits_are = below_two (λ k. _)
       (record {
         full = refl;
-        low = one (λ k. _) (omega (arith, ints));
-        high = one (λ k. _) (omega (arith, ints));
+        low = below_one (λ k. _) (omega (arith, ints));
+        high = below_one (λ k. _) (omega (arith, ints));
         root_none = refl;
-        most = two (λ k. _) (omega (arith, ints)) (omega (arith, ints));
+        most = below_two (λ k. _) (omega (arith, ints)) (omega (arith, ints));
       })
       (record {
         full = refl;
-        low = one (λ k. _) (omega (arith, ints));
-        high = one (λ k. _) (omega (arith, ints));
+        low = below_one (λ k. _) (omega (arith, ints));
+        high = below_one (λ k. _) (omega (arith, ints));
         root_none = refl;
-        most = two (λ k. _) (omega (arith, ints)) (omega (arith, ints));
+        most = below_two (λ k. _) (omega (arith, ints)) (omega (arith, ints));
       });
   sum = refl;
   thresholds_are = record {
     rise = later (λ k. _);
-    occur = one (λ k. _) (record { place = 0; in_range = omega arith; there = refl });
-    all = one (λ k. _) (record { place = 0; in_range = omega arith; there = refl });
+    occur = below_one (λ k. _) (record { place = 0; in_range = omega arith; there = refl });
+    all = below_one (λ k. _) (record { place = 0; in_range = omega arith; there = refl });
   };
-  each = one (λ k. _) (record { full = refl; dear = one (λ k. _) (λ e. omega (arith, ints)); sum = refl });
+  each = below_one (λ k. _) (record { full = refl; dear = below_one (λ k. _) (λ e. omega (arith, ints)); sum = refl });
   cost_is = refl;
 }
 
@@ -154,20 +140,20 @@ zero_is_reached = record {
     vector_low = none (λ k. _);
     vector_high = none (λ k. _);
   };
-  splits_are = two (λ k. _)
+  splits_are = below_two (λ k. _)
       (record {
         full = refl;
         low = none (λ k. _);
         high = none (λ k. _);
         root_none = refl;
-        most = two (λ k. _) (omega (arith, ints)) (omega (arith, ints));
+        most = below_two (λ k. _) (omega (arith, ints)) (omega (arith, ints));
       })
       (record {
         full = refl;
         low = none (λ k. _);
         high = none (λ k. _);
         root_none = refl;
-        most = two (λ k. _) (omega (arith, ints)) (omega (arith, ints));
+        most = below_two (λ k. _) (omega (arith, ints)) (omega (arith, ints));
       });
   sum = refl;
   thresholds_are = record { rise = λ j low. absurd (omega (arith, low)); occur = none (λ k. _); all = none (λ k. _) };

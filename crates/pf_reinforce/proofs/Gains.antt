@@ -9,6 +9,8 @@ use Rattle.pf_model.specs.Cut.{at_arc}
 use Rattle.pf_model.proofs.Integers.{mul_most, mul_nonneg, mul_comm}
 use Rattle.pf_reinforce.specs.Reinforcement.{cost_of_added}
 use Rattle.pf_reinforce.specs.Raising.{IsGain}
+use Rattle.pf_model.proofs.Sums.{none_after}
+use Rattle.pf_graph.proofs.EdgeSums.{cost_step}
 
 -- the first numbers
 pub record IsGainSoFar (first vector added : List ℤ) (count : ℕ) : Type 0 where
@@ -36,17 +38,11 @@ pub record IsCost (prices numbers : List ℤ) (i : ℕ) (sum : ℤ) : Type 0 whe
   pub low : pos 0 ≤ℤ sum
   pub high : sum ≤ℤ pos (i * 2 ^ 112)
 
-cost_step : (a b c d : ℤ) → b ≡ c +ℤ d → a +ℤ b ≡ (a +ℤ c) +ℤ d
-cost_step a b c d e = omega (arith, ints, e)
-
-last_cost : (a : ℤ) → a +ℤ pos 0 ≡ pos 0 +ℤ a
-last_cost a = omega (arith, ints)
-
 cost_more : (prices numbers : List ℤ) (i : ℕ) → length numbers ≡ length prices → i < length prices →
     cost_of_added (take (suc i) prices) (take (suc i) numbers) ≡ cost_of_added (take i prices) (take i numbers) +ℤ (at_arc prices i *ℤ at_arc numbers i)
 cost_more [] numbers i full low = absurd (omega (arith, low))
 cost_more (price ∷ prices) [] i full low = absurd (omega (arith, full))
-cost_more (price ∷ prices) (x ∷ numbers) zero full low = last_cost (price *ℤ x)
+cost_more (price ∷ prices) (x ∷ numbers) zero full low = none_after (price *ℤ x)
 cost_more (price ∷ prices) (x ∷ numbers) (suc i) full low = cost_step (price *ℤ x) _ _ _ (cost_more prices numbers i (omega (arith, full)) (omega (arith, low)))
 
 pub product_high : (price number : ℤ) → pos 0 ≤ℤ price → price ≤ℤ pos (2 ^ 32) → pos 0 ≤ℤ number → number ≤ℤ pos (2 ^ 80) → (price *ℤ number) ≤ℤ pos (2 ^ 112)

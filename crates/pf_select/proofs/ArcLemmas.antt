@@ -7,6 +7,7 @@ use Rattle.pf_model.specs.Fraction.{Fraction}
 use Rattle.pf_net.specs.Limits.{rising}
 use Rattle.pf_select.specs.Problem.{SelectionProblem, sum_of}
 use Rattle.pf_select.specs.Reduction.{part_arc, need_arc, product_arc, part_arcs, product_arcs, sink_node, whole_gain, select_net}
+use Rattle.pf_model.proofs.Facts.{join_three, one_more}
 
 part_arcs_suc : (j k : ℕ) (costs : List ℕ) → k < length costs →
     part_arcs j (map pos (take (suc k) costs)) ≡ part_arcs j (map pos (take k costs)) ++ (part_arc (j + k) (pos (get_or costs k 0)) ∷ [])
@@ -41,10 +42,6 @@ pushed_part costs k i old new a low same before step e =
     step ∙ ap (λ l. l ++ (a ∷ [])) before ∙ ap (λ x. part_arcs 0 (map pos (take k costs)) ++ (x ∷ [])) here
     ∙ sym (part_arcs_suc 0 k costs low) ∙ sym (ap (λ n. part_arcs 0 (map pos (take n costs))) (add-one k))
 
-one_more : (xs ys : List AffineArc) (a : AffineArc) → (xs ++ ys) ++ (a ∷ []) ≡ xs ++ (ys ++ (a ∷ []))
-one_more [] ys a = refl
-one_more (x ∷ xs) ys a = ap (λ l. x ∷ l) (one_more xs ys a)
-
 pub pushed_need : (parts : ℕ) (needs : List (ℕ × ℕ)) (k : ℕ) (start old new : List AffineArc) (a : AffineArc) → k < length needs →
     old ≡ start ++ map (need_arc parts) (take k needs) → new ≡ old ++ (a ∷ []) → a ≡ need_arc parts (get_or needs k (0, 0)) →
     new ≡ start ++ map (need_arc parts) (take (k + 1) needs)
@@ -68,10 +65,6 @@ pushed_product sink parts gains k j start old new a low same before step e =
 same_parts : (n n' s s' : ℕ) (l l' h h' : Fraction) (xs xs' : List AffineArc) → n ≡ n' → s ≡ s' → l ≡ l' → h ≡ h' → xs ≡ xs' →
     rising n 0 s l h xs ≡ rising n' 0 s' l' h' xs'
 same_parts n n' s s' l l' h h' xs xs' a b c d e = rw (a, b, c, d, e) refl
-
-join_three : (xs ys zs : List AffineArc) → (xs ++ ys) ++ zs ≡ xs ++ (ys ++ zs)
-join_three [] ys zs = refl
-join_three (x ∷ xs) ys zs = ap (λ l. x ∷ l) (join_three xs ys zs)
 
 pub same_net : (p : SelectionProblem) (sink parts sum : ℕ) (costs gains : List ℕ) (low high : Fraction) (first second third : List AffineArc) →
     parts ≡ length p.costs → sink ≡ length p.costs + length p.gains + 1 → p.costs ≡ map pos costs → p.gains ≡ map pos gains →

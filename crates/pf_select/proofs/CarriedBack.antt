@@ -22,12 +22,13 @@ use Rattle.pf_select.specs.Certificate.{ScheduleAnswer, CertifiesPrice, IsNeeded
 use Rattle.pf_select.specs.Reduction.{product_node, sink_node, whole_gain, select_net, selection_of, charges_of}
 use Rattle.pf_select.specs.Carried.{IsCarriedBack}
 use Rattle.pf_select.proofs.Grouping.{sum_none, sum_same}
-use Rattle.pf_select.proofs.Worths.{not_true, not_false, lost}
+use Rattle.pf_select.proofs.Worths.{lost}
 use Rattle.pf_select.proofs.Soundness.{sum_some, gain_most}
 use Rattle.pf_select.proofs.NetBuilt.{net_built}
 use Rattle.pf_select.proofs.NetFlows.{none_at}
 use Rattle.pf_select.proofs.NetSides.{IsShut, shut_from_tight, side_with, side_part, side_product, side_sink, side_full, cheap_reached, price_certified}
 use Rattle.pf_select.proofs.NetCuts.{length_selection, has_selection, products_lost, needs_uncrossed, capacity_of_side, capacity_is_short}
+use Rattle.pf_model.proofs.Facts.{not_false, not_true}
 
 -- some product needs the part, or none does
 find_need : (needs : List (ℕ × ℕ)) (i : ℕ) →

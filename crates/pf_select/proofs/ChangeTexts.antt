@@ -1,8 +1,7 @@
 -- The text of selections and prices, as one line of a selection and a list of changes.
-use Rattle.std.proofs.Common.{◌≡◌, ℕ, zero, suc, ◌+◌, ◌<◌, ◌≤◌, List, [], ◌∷◌, ◌++◌, length, get_or, map, drop, Bool, refl, ap, ◌∙◌, arith, add-one, length-append}
+use Rattle.std.proofs.Common.{◌≡◌, ℕ, zero, suc, ◌+◌, ◌<◌, ◌≤◌, List, [], ◌∷◌, ◌++◌, length, get_or, map, drop, Bool, refl, ap, ◌∙◌, arith, length-append}
 use Rattle.std.specs.Prelude.{ℤ, All, codes}
 use Rattle.std.proofs.lemmas.List.Elements.{All-nil, All-cons, All-head, All-tail}
-use Rattle.std.proofs.Math.Seq.{drop-cons}
 use Rattle.pf_model.specs.Fraction.{Fraction}
 use Rattle.pf_model.specs.Answer.{IsFractionShape}
 use Rattle.pf_model.specs.Cut.{at_arc}
@@ -12,6 +11,7 @@ use Rattle.pf_select.specs.Text.{change_text, changes_text, selections_text}
 use Rattle.pf_select.specs.Outline.{IsChange, change_lines, all_changes}
 use Rattle.pf_select.specs.declared.outline.Change.{Change}
 use Rattle.pf_select.proofs.WorthSizes.{worth_size}
+use Rattle.pf_model.proofs.Facts.{drop_next}
 
 abbrev change_of : SelectionProblem → Fraction → List Bool → List Bool → Change
 change_of p price before set = record { point = record { at = price; value = worth p price before }; set = set }
@@ -108,18 +108,14 @@ changes_bytes j (change ∷ changes) =
     let more = changes_bytes (j + 1) changes in
     omega (arith, length-append front later, some, more)
 
--- the change at price j + 1, and those after it
-next : {X : Type 0} (xs : List X) (i : ℕ) (other : X) → i < length xs → drop i xs ≡ get_or xs i other ∷ drop (i + 1) xs
-next xs i other low = rw add-one (drop-cons xs i other low)
-
 pub changes_text_at : (p : SelectionProblem) (j : ℕ) (prices : List Fraction) (selections : List (List Bool)) (other : Fraction) → j < length prices →
     j + 1 < length selections →
     changes_text p j (selection_at selections j) (drop j prices) (drop (j + 1) selections)
     ≡ change_text (j + 1) (get_or prices j other) (worth p (get_or prices j other) (selection_at selections j)) (selection_at selections (j + 1))
     ++ changes_text p (j + 1) (selection_at selections (j + 1)) (drop (j + 1) prices) (drop (j + 1 + 1) selections)
 changes_text_at p j prices selections other low less =
-    ap (λ (xs : List Fraction). changes_text p j (selection_at selections j) xs (drop (j + 1) selections)) (next prices j other low)
-    ∙ ap (λ (xs : List (List Bool)). changes_text p j (selection_at selections j) (get_or prices j other ∷ drop (j + 1) prices) xs) (next selections (j + 1) [] less)
+    ap (λ (xs : List Fraction). changes_text p j (selection_at selections j) xs (drop (j + 1) selections)) (drop_next prices j other low)
+    ∙ ap (λ (xs : List (List Bool)). changes_text p j (selection_at selections j) (get_or prices j other ∷ drop (j + 1) prices) xs) (drop_next selections (j + 1) [] less)
 
 pub no_changes : (p : SelectionProblem) (j : ℕ) (before : List Bool) (selections : List (List Bool)) → changes_text p j before [] selections ≡ []
 no_changes p j before selections = refl

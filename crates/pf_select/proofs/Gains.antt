@@ -4,24 +4,19 @@ use Rattle.std.specs.Prelude.{ℤ, ◌+ℤ◌, pos, map, ◌==◌}
 use Rattle.std.proofs.lemmas.Int.{ints}
 use Rattle.std.proofs.lemmas.Bool.{cases_eq, eq-eqb, ne_eqb}
 use Rattle.std.proofs.lemmas.List.{length-set, get_or-set_same, get_or-set_other}
-use Rattle.std.proofs.lemmas.Grind.{common_steps}
 use Rattle.pf_model.specs.Cut.{has}
 use Rattle.pf_select.specs.Problem.{SelectionProblem, is_gained, sum_of}
 use Rattle.pf_select.specs.Tests.{AreGained}
 use Rattle.pf_select.proofs.Grouping.{sum_same}
-
-next_step : (here a b c : ℤ) → a ≡ b +ℤ c → here +ℤ a ≡ (here +ℤ b) +ℤ c
-next_step here a b c h = omega (arith, ints)
-
-none_after : (a : ℤ) → a +ℤ pos 0 ≡ pos 0 +ℤ a
-none_after a = omega (arith, ints)
+use Rattle.pf_model.proofs.Sums.{none_after, take_whole}
+use Rattle.pf_model.proofs.Facts.{add_before}
 
 sum_suc : (test : ℕ → Bool) (xs : List ℕ) (i : ℕ) → i < length xs →
     sum_of test (map pos (take (suc i) xs)) ≡ sum_of test (map pos (take i xs)) +ℤ cond (test i) (pos (get_or xs i 0)) (pos 0)
 sum_suc test [] i low = absurd (omega (arith, low))
 sum_suc test (x ∷ xs) zero low = none_after (cond (test 0) (pos x) (pos 0))
 sum_suc test (x ∷ xs) (suc i) low =
-    next_step (cond (test 0) (pos x) (pos 0)) _ _ _ (sum_suc (λ j. test (suc j)) xs i (omega (arith, low)))
+    add_before (cond (test 0) (pos x) (pos 0)) _ _ _ (sum_suc (λ j. test (suc j)) xs i (omega (arith, low)))
 
 pick_pos : (here : Bool) (x y : ℕ) → x ≡ cond here y 0 → pos x ≡ cond here (pos y) (pos 0)
 pick_pos true x y e = ap pos e
@@ -98,9 +93,6 @@ gained_more needs set' products products' k g low e = record {
       ∙ ap (λ b. b && (not (eqb (get_or needs k (0, 0)).0 j) || has set' (get_or needs k (0, 0)).1)) (g.each j (omega (arith, less, wide)))
       ∙ sym (gained_suc needs set' k j low) ∙ sym (ap (λ n. is_gained (take n needs) set' j) (add-one k));
 }
-
-take_whole : {X : Type 0} (xs : List X) (i : ℕ) → length xs ≤ i → take i xs ≡ xs
-take_whole xs i h = grind (arith, common_steps)
 
 -- the sum of what a selection gains
 pub gains_of : (p : SelectionProblem) (set' products : List Bool) (gains : List ℕ) → AreGained p.needs (length p.needs) set' products →

@@ -2,7 +2,6 @@
 use Rattle.std.proofs.Common.{◌≡◌, ℕ, zero, suc, ◌+◌, ◌<◌, ◌≤◌, List, [], ◌∷◌, ◌++◌, length, get_or, take, Option, Some, None, Result, Err, refl, sym, ap, ◌∙◌, arith}
 use Rattle.std.specs.Option.{option_map}
 use Rattle.std.proofs.lemmas.List.{take_more}
-use Rattle.std.proofs.lemmas.Grind.{common_steps}
 use Rattle.pf_text.specs.declared.RuleKind.{RuleKind}
 use Rattle.pf_text.specs.declared.RuleKind.TheVariants.{Missing}
 use Rattle.pf_lines.specs.declared.errors.LineBad.{LineBad}
@@ -11,6 +10,7 @@ use Rattle.pf_lines.specs.Gathering.{ObeysRules}
 use Rattle.pf_select.specs.Problem.{SelectionProblem}
 use Rattle.pf_select.specs.Refused.{IsMissingOf}
 use Rattle.pf_select.specs.Text.{all_given, problem_by}
+use Rattle.pf_model.proofs.Sums.{take_whole}
 
 take_none : (slots : List (Option ℕ)) → all_given (take 0 slots) ≡ Some []
 take_none [] = refl
@@ -36,9 +36,6 @@ pub gathered_more : (slots : List (Option ℕ)) (i : ℕ) (numbers numbers' : Li
     get_or slots i None ≡ Some x → numbers' ≡ numbers ++ x ∷ [] → all_given (take (i + 1) slots) ≡ Some numbers'
 gathered_more slots i numbers numbers' x g low here e =
     ap all_given (take_more slots i None low ∙ ap (λ o. take i slots ++ o ∷ []) here) ∙ all_given-more (take i slots) numbers x g ∙ ap Some (sym e)
-
-take_whole : {X : Type 0} (xs : List X) (i : ℕ) → length xs ≤ i → take i xs ≡ xs
-take_whole xs i h = grind (arith, common_steps)
 
 pub gathered_end : (slots : List (Option ℕ)) (i : ℕ) (numbers : List ℕ) → all_given (take i slots) ≡ Some numbers → length slots ≤ i → all_given slots ≡ Some numbers
 gathered_end slots i numbers g done = sym (ap all_given (take_whole slots i done)) ∙ g

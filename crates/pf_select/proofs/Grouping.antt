@@ -7,6 +7,7 @@ use Rattle.std.proofs.lemmas.Bool.Decides.{nat_tests}
 use Rattle.pf_model.specs.Cut.{sum_where, at_arc, has}
 use Rattle.pf_model.proofs.Integers.{mul_add}
 use Rattle.pf_select.specs.Problem.{sum_of}
+use Rattle.pf_model.proofs.Facts.{off_step}
 
 -- the sum over the numbers below k
 abbrev pub sum_below : (ℕ → ℤ) → ℕ → ℤ
@@ -147,14 +148,9 @@ pub length_listed : (test : ℕ → Bool) (n : ℕ) → length (listed test n) �
 length_listed test zero = refl
 length_listed test (suc n) = ap suc (length_listed (λ i. test (suc i)) n)
 
--- no index passes
-sum_none_step : (b : Bool) (x rest : ℤ) → b ≡ false → rest ≡ pos 0 → cond b x (pos 0) +ℤ rest ≡ pos 0
-sum_none_step true x rest e h = cc
-sum_none_step false x rest e h = omega (arith, ints)
-
 pub sum_none : (test : ℕ → Bool) (xs : List ℤ) → ((i : ℕ) → i < length xs → test i ≡ false) → sum_of test xs ≡ pos 0
 sum_none test [] h = refl
-sum_none test (x ∷ xs) h = sum_none_step (test 0) x _ (h 0 (omega arith)) (sum_none (λ i. test (suc i)) xs (λ i low. h (suc i) (omega (arith, low))))
+sum_none test (x ∷ xs) h = off_step (test 0) x _ (h 0 (omega arith)) (sum_none (λ i. test (suc i)) xs (λ i low. h (suc i) (omega (arith, low))))
 
 -- tests that say the same of each index
 index_step : (a b : Bool) (x r s : ℤ) → a ≡ b → r ≡ s → cond a x (pos 0) +ℤ r ≡ cond b x (pos 0) +ℤ s

@@ -12,6 +12,8 @@ use Rattle.pf_model.proofs.Affine.{no_arc}
 use Rattle.pf_select.specs.Problem.{SelectionProblem, sum_of}
 use Rattle.pf_select.specs.Reduction.{part_arc, need_arc, product_arc, part_arcs, product_arcs, product_node, sink_node, select_net, charges_of}
 use Rattle.pf_select.proofs.Grouping.{sum_same}
+use Rattle.pf_model.proofs.Facts.{add_before, none_before}
+use Rattle.pf_model.proofs.Sums.{sum_where_empty}
 
 -- how many
 
@@ -102,22 +104,12 @@ each_arc p P parts needs products i low =
 
 -- sums
 
-add_step : (here a b c : ℤ) → a ≡ b +ℤ c → here +ℤ a ≡ (here +ℤ b) +ℤ c
-add_step here a b c h = omega (arith, ints)
-
-none_before : (a : ℤ) → a ≡ pos 0 +ℤ a
-none_before a = omega (arith, ints)
-
-no_numbers : (test : ℕ × ℕ → Bool) (arcs : List (ℕ × ℕ)) → sum_where test arcs [] ≡ pos 0
-no_numbers test [] = refl
-no_numbers test (arc ∷ arcs) = refl
-
 sum_append : (test : ℕ × ℕ → Bool) (xs ys : List AffineArc) (flow : List ℤ) →
     sum_where test (map ends_of (xs ++ ys)) flow
     ≡ sum_where test (map ends_of xs) (take (length xs) flow) +ℤ sum_where test (map ends_of ys) (drop (length xs) flow)
 sum_append test [] ys flow = none_before _
-sum_append test (x ∷ xs) ys [] = let e = no_numbers test (map ends_of ys) in omega (arith, ints, e)
-sum_append test (x ∷ xs) ys (f ∷ flow) = add_step (cond (test (ends_of x)) f (pos 0)) _ _ _ (sum_append test xs ys flow)
+sum_append test (x ∷ xs) ys [] = let e = sum_where_empty test (map ends_of ys) in omega (arith, ints, e)
+sum_append test (x ∷ xs) ys (f ∷ flow) = add_before (cond (test (ends_of x)) f (pos 0)) _ _ _ (sum_append test xs ys flow)
 
 sum_parts : (test : ℕ × ℕ → Bool) (k : ℕ) (costs xs : List ℤ) → length xs ≡ length costs →
     sum_where test (map ends_of (part_arcs k costs)) xs ≡ sum_of (λ i. test (0, suc (k + i))) xs

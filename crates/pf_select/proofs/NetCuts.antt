@@ -14,8 +14,10 @@ use Rattle.pf_model.proofs.Integers.{mul_add, mul_comm}
 use Rattle.pf_select.specs.Problem.{SelectionProblem, IsBoundedProblem, is_gained, sum_of, gain_of, cost_of, worth, product_at, part_at}
 use Rattle.pf_select.specs.Reduction.{need_arc, part_arcs, product_arcs, product_node, sink_node, whole_gain, select_net, selection_of}
 use Rattle.pf_select.proofs.Grouping.{sum_same}
-use Rattle.pf_select.proofs.Worths.{not_true, not_false, gained_holds, missing, lost, gains_split}
-use Rattle.pf_select.proofs.NetSides.{IsShut, side_with, side_part, side_product, side_sink, reach_inside, needs_stay}
+use Rattle.pf_select.proofs.Worths.{gained_holds, missing, lost, gains_split}
+use Rattle.pf_select.proofs.NetSides.{IsShut, side_with, side_part, side_product, side_sink, reach_inside, needs_stay, and_parts}
+use Rattle.pf_model.proofs.Facts.{add_before, need_step, none_before, not_false, not_true}
+use Rattle.pf_model.proofs.Unique.{same_truth}
 
 -- the parts outside a side
 pub length_selection : (p : SelectionProblem) (side : List Bool) → length side ≡ suc (sink_node p) → length (selection_of p side) ≡ length p.costs
@@ -31,16 +33,6 @@ has_selection p side i full low =
     let one : 1 + i ≡ suc i = omega arith in
     get_or-map not (take (length p.costs) (drop 1 side)) i false false (omega (arith, wide, low))
     ∙ ap not (get_or-take (length p.costs) (drop 1 side) i false low ∙ get_or-drop 1 side i false ∙ ap (has side) one)
-
-and_parts : (a b : Bool) → (a && b) ≡ true → (a ≡ true) × (b ≡ true)
-and_parts true true e = (refl, refl)
-and_parts true false e = cc
-and_parts false b e = cc
-
-same_truth : (a b : Bool) → (a ≡ true → b ≡ true) → (b ≡ true → a ≡ true) → a ≡ b
-same_truth true b h k = sym (h refl)
-same_truth false true h k = k refl
-same_truth false false h k = refl
 
 -- the products of a cut that the source reaches are those that the parts outside it do not gain
 module _ (p : SelectionProblem) (x : Fraction) (flow : List ℤ) (side : List Bool) (b : IsBoundedProblem p) (px : IsParameter x)
@@ -104,19 +96,13 @@ module _ (p : SelectionProblem) (x : Fraction) (flow : List ℤ) (side : List Bo
 
 -- capacities
 
-add_step : (here a b c : ℤ) → a ≡ b +ℤ c → here +ℤ a ≡ (here +ℤ b) +ℤ c
-add_step here a b c h = omega (arith, ints)
-
-none_before : (a : ℤ) → a ≡ pos 0 +ℤ a
-none_before a = omega (arith, ints)
-
 abbrev beside : Fraction → List Bool → List AffineArc → ℤ
 beside x side arcs = sum_where (leaves side) (map ends_of arcs) (map (capacity_at x) arcs)
 
 beside_append : (x : Fraction) (side : List Bool) (xs ys : List AffineArc) → beside x side (xs ++ ys) ≡ beside x side xs +ℤ beside x side ys
 beside_append x side [] ys = none_before _
 beside_append x side (arc ∷ xs) ys =
-    add_step (cond (leaves side (ends_of arc)) (capacity_at x arc) (pos 0)) _ _ _ (beside_append x side xs ys)
+    add_before (cond (leaves side (ends_of arc)) (capacity_at x arc) (pos 0)) _ _ _ (beside_append x side xs ys)
 
 part_step : (held out : Bool) (p q cost rest sum : ℤ) → held ≡ true → rest ≡ p *ℤ sum →
     cond (held && not out) ((pos 0 *ℤ q) +ℤ (cost *ℤ p)) (pos 0) +ℤ rest ≡ p *ℤ (cond (not out) cost (pos 0) +ℤ sum)
@@ -165,11 +151,6 @@ beside_products x side sink parts k (gain ∷ gains) out =
     (λ j low. ap (λ n. has side (suc (parts + n))) (one_more j))) in
     product_step (has side (suc (parts + k))) (has side sink) x.p x.q gain _ (sum_of (λ j. has side (suc (parts + (k + suc j)))) gains) out rest
     ∙ ap (λ n. x.q *ℤ (cond (has side (suc (parts + n))) gain (pos 0) +ℤ sum_of (λ j. has side (suc (parts + (k + suc j)))) gains)) none
-
-need_step : (u v : Bool) (x rest : ℤ) → (u ≡ true → v ≡ true) → rest ≡ pos 0 → cond (u && not v) x (pos 0) +ℤ rest ≡ pos 0
-need_step true true x rest h e = omega (arith, ints)
-need_step true false x rest h e = let f : false ≡ true = h refl in cc
-need_step false v x rest h e = omega (arith, ints)
 
 abbrev IsUncrossed : ℕ → List (ℕ × ℕ) → List Bool → Type 0
 IsUncrossed parts needs side =

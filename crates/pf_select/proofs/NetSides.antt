@@ -10,7 +10,7 @@ use Rattle.pf_model.specs.Flow.{IsFlow}
 use Rattle.pf_model.specs.Residual.{IsReach}
 use Rattle.pf_model.specs.Network.{IsNetworkCut, ends_of, capacity_at, network_at}
 use Rattle.pf_model.proofs.Balance.{inside}
-use Rattle.pf_model.proofs.Duality.{IsTight, leaves_parts, enters_parts, stays}
+use Rattle.pf_model.proofs.Duality.{IsTight, leaves_parts, enters_parts, stays, enters_by, leaves_by}
 use Rattle.pf_select.specs.Problem.{SelectionProblem, IsBoundedProblem, product_at, part_at}
 use Rattle.pf_select.specs.Certificate.{charged_on, KeepsRules, IsDropped, CertifiesPrice}
 use Rattle.pf_select.specs.Reduction.{product_node, sink_node, select_net, charges_of}
@@ -27,12 +27,6 @@ pub record IsShut (p : SelectionProblem) (x : Fraction) (flow : List ℤ) (side 
       at_arc flow (length p.costs + k) ≤ℤ pos 0
   pub products : (j : ℕ) → j < length p.gains → has side (product_node p j) ≡ true →
       (x.q *ℤ at_arc p.gains j) ≤ℤ at_arc flow (length p.costs + (length p.needs + j))
-
-leaves_by : (side : List Bool) (arc : ℕ × ℕ) → has side arc.0 ≡ true → has side arc.1 ≡ false → leaves side arc ≡ true
-leaves_by side arc h out = rw (h, out) refl
-
-enters_by : (side : List Bool) (arc : ℕ × ℕ) → has side arc.1 ≡ true → has side arc.0 ≡ false → enters side arc ≡ true
-enters_by side arc h out = rw (h, out) refl
 
 ends_full : (p : SelectionProblem) → length (map ends_of (select_net p).arcs) ≡ length p.costs + (length p.needs + length p.gains)
 ends_full p = length-map (select_net p).arcs ends_of ∙ arcs_full p
@@ -163,7 +157,7 @@ reach_inside p x flow side other r source sink s v low h =
     let walk = (r.exact v low).0 h in
     stays (network_at (select_net p) x) flow other (tight_from_shut p x flow other source sink s) source walk.0 v walk.1
 
-and_parts : (a b : Bool) → (a && b) ≡ true → (a ≡ true) × (b ≡ true)
+pub and_parts : (a b : Bool) → (a && b) ≡ true → (a ≡ true) × (b ≡ true)
 and_parts true true e = (refl, refl)
 and_parts true false e = cc
 and_parts false b e = cc

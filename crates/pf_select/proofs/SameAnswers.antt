@@ -1,12 +1,11 @@
 -- Answers of the right shape with equal texts are equal.
-use Rattle.std.proofs.Common.{◌≡◌, ℕ, suc, ◌+◌, ◌<◌, ◌^◌, List, [], ◌∷◌, ◌++◌, length, get_or, drop, map, refl, sym, ap, ◌∙◌, append_assoc, arith, true, subst}
-use Rattle.std.specs.Prelude.{◌≢◌, ◌↔◌, ℤ, Bool, nat_abs, All, codes}
+use Rattle.std.proofs.Common.{◌≡◌, ℕ, suc, ◌+◌, ◌^◌, List, [], ◌∷◌, ◌++◌, length, get_or, drop, map, refl, sym, ap, ◌∙◌, append_assoc, arith, true, subst}
+use Rattle.std.specs.Prelude.{◌≢◌, ◌↔◌, ℤ, Bool, All, codes}
 use Rattle.std.specs.List.{AllByRecursion}
 use Rattle.std.specs.Fmt.{decimal, signed_decimal}
-use Rattle.std.proofs.lemmas.Int.{ints}
 use Rattle.std.proofs.lemmas.List.Elements.{recursion_from_All}
 use Rattle.pf_model.specs.Fraction.{Fraction}
-use Rattle.pf_model.specs.Answer.{IsWithinSize, IsFractionShape}
+use Rattle.pf_model.specs.Answer.{IsWithinSize}
 use Rattle.pf_text.specs.Spelling.{line, side_line, side_text, head_text}
 use Rattle.pf_text.proofs.TextLines.{ArePlain, same_line, decimal_plain, signed_plain, numbers_plain, same_side}
 use Rattle.pf_lines.proofs.RowsTaken.{line_rest, side_parts}
@@ -20,12 +19,9 @@ use Rattle.pf_select.specs.declared.outline.Change.{Change}
 use Rattle.pf_select.proofs.Soundness.{certificate_proves}
 use Rattle.pf_select.proofs.ChangeTexts.{changes_of, text_is_lines, prices_are, sets_are, changes_shape}
 use Rattle.pf_select.proofs.TextLemmas.{last_lines, charge_lines, selection_lines, count_lines, all_lines, same_answer}
+use Rattle.pf_model.proofs.Facts.{cons_same, same_front}
 
 -- ---- lines of selections, whose sides have as many characters
-
-same_front : (front a b : List ℕ) → front ++ a ≡ front ++ b → a ≡ b
-same_front [] a b e = e
-same_front (x ∷ front) a b e = same_front front a b (ap (drop 1) e)
 
 same_sides : (a b : List Bool) (rest rest' : List ℕ) → length a ≡ length b → side_text a ++ rest ≡ side_text b ++ rest' → (side_text a ≡ side_text b) × (rest ≡ rest')
 same_sides [] [] rest rest' n e = (refl, e)
@@ -87,9 +83,6 @@ field_at i fields = get_or fields i []
 
 first_of_changes : (j : ℕ) (change : Change) (changes : List Change) (rest : List ℕ) → mark (all_changes j (change ∷ changes) ++ rest) ≡ 98
 first_of_changes j change changes rest = refl
-
-cons_same : {X : Type 0} (x y : X) (xs ys : List X) → x ≡ y → xs ≡ ys → x ∷ xs ≡ y ∷ ys
-cons_same x y xs ys e f = ap (λ z. z ∷ xs) e ∙ ap (λ zs. y ∷ zs) f
 
 same_changes : (width j : ℕ) (a b : List Change) (rest rest' : List ℕ) → AllByRecursion (IsChange width) a → AllByRecursion (IsChange width) b →
     mark rest ≢ 98 → mark rest' ≢ 98 → all_changes j a ++ rest ≡ all_changes j b ++ rest' → AreSameChanges a b rest rest'

@@ -1,5 +1,5 @@
 -- What is left of prices and gains when charges are taken from them, need by need.
-use Rattle.std.proofs.Common.{◌≡◌, ◌≢◌, ℕ, zero, suc, ◌+◌, ◌*◌, ◌^◌, ◌<◌, ◌≤◌, List, [], ◌∷◌, length, get_or, set, take, refl, Bool, true, false, cond, eqb, arith, ap, sym, ◌∙◌, inl, inr, add-one}
+use Rattle.std.proofs.Common.{◌≡◌, ℕ, zero, suc, ◌+◌, ◌*◌, ◌^◌, ◌<◌, ◌≤◌, List, [], ◌∷◌, length, get_or, set, take, refl, Bool, true, false, cond, eqb, arith, ap, sym, ◌∙◌, inl, inr, add-one}
 use Rattle.std.specs.Prelude.{ℤ, ◌+ℤ◌, ◌-ℤ◌, ◌*ℤ◌, ◌≤ℤ◌, ◌<ℤ◌, pos, neg_ℤ, map, ◌==◌}
 use Rattle.std.proofs.lemmas.Int.{ints}
 use Rattle.std.proofs.lemmas.Bool.{cases_eq, eq-eqb, ne_eqb}
@@ -10,6 +10,7 @@ use Rattle.pf_model.proofs.Sums.{sum_where_more, sum_all}
 use Rattle.pf_select.specs.Problem.{SelectionProblem, IsSelectionProblem, product_at, part_at}
 use Rattle.pf_select.specs.Dropping.{HasSlacks, IsScaled, ArePlaces, IsTaken}
 use Rattle.pf_select.specs.Tests.{AreSizes}
+use Rattle.pf_model.proofs.Facts.{raised_here, raised_there}
 
 -- numbers of the code as those of the definitions
 pub at_pos : (xs : List ℕ) (i : ℕ) → at_arc (map pos xs) i ≡ pos (get_or xs i 0)
@@ -20,12 +21,6 @@ at_pos (x ∷ xs) (suc i) = at_pos xs i
 pub length_pos : (xs : List ℕ) → length (map pos xs) ≡ length xs
 length_pos [] = refl
 length_pos (x ∷ xs) = ap suc (length_pos xs)
-
-at_set : (sums sums' : List ℤ) (i : ℕ) (y : ℤ) → i < length sums → sums' ≡ set sums i y → at_arc sums' i ≡ y
-at_set sums sums' i y low e = rw (e, get_or-set_same) refl
-
-beside_set : (sums sums' : List ℤ) (i v : ℕ) (y : ℤ) → v ≢ i → sums' ≡ set sums i y → at_arc sums' v ≡ at_arc sums v
-beside_set sums sums' i v y ne e = rw (e, get_or-set_other) refl
 
 -- the sum of the first charges with this end
 record IsSmallSum (k : ℕ) (sum : ℤ) : Type 0 where
@@ -99,16 +94,16 @@ pub scaled_more : (k : ℤ) (numbers : List ℕ) (sums sums' : List ℤ) (i : �
     sums' ≡ set sums i y' → y' ≡ y → y ≡ k *ℤ pos (get_or numbers i 0) → neg_ℤ (pos (2 ^ 107)) ≤ℤ y → y ≤ℤ pos (2 ^ 107) → IsScaled k numbers (i + 1) sums'
 scaled_more k numbers sums sums' i y y' s low e stripped value l h = record {
   each = λ v less. elim (cases_eq v i) [
-    | inl here ↦ rw here (at_set sums sums' i y' low e ∙ stripped ∙ value)
-    | inr other ↦ beside_set sums sums' i v y' other e ∙ s.each v (omega (arith, less, other))
+    | inl here ↦ rw here (raised_here sums sums' i y' low e ∙ stripped ∙ value)
+    | inr other ↦ raised_there sums sums' i v y' other e ∙ s.each v (omega (arith, less, other))
   ];
   low = λ v less. elim (cases_eq v i) [
-    | inl here ↦ rw here (let a = at_set sums sums' i y' low e in omega (arith, ints, a, stripped, l))
-    | inr other ↦ rw (beside_set sums sums' i v y' other e) (s.low v (omega (arith, less, other)))
+    | inl here ↦ rw here (let a = raised_here sums sums' i y' low e in omega (arith, ints, a, stripped, l))
+    | inr other ↦ rw (raised_there sums sums' i v y' other e) (s.low v (omega (arith, less, other)))
   ];
   high = λ v less. elim (cases_eq v i) [
-    | inl here ↦ rw here (let a = at_set sums sums' i y' low e in omega (arith, ints, a, stripped, h))
-    | inr other ↦ rw (beside_set sums sums' i v y' other e) (s.high v (omega (arith, less, other)))
+    | inl here ↦ rw here (let a = raised_here sums sums' i y' low e in omega (arith, ints, a, stripped, h))
+    | inr other ↦ rw (raised_there sums sums' i v y' other e) (s.high v (omega (arith, less, other)))
   ];
 }
 

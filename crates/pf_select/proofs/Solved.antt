@@ -1,9 +1,8 @@
 -- What is read off a curve, one item after the other, and that it is the best schedule.
-use Rattle.std.proofs.Common.{◌≡◌, ℕ, suc, ◌+◌, ◌-◌, ◌^◌, ◌<◌, List, [], ◌∷◌, ◌++◌, length, get_or, take, drop, map, refl, Bool, false, not, arith, ap, sym, ◌∙◌, inl, inr, subst, add-one}
+use Rattle.std.proofs.Common.{◌≡◌, ℕ, suc, ◌+◌, ◌-◌, ◌^◌, ◌<◌, List, [], ◌∷◌, ◌++◌, length, get_or, take, drop, map, refl, Bool, false, not, arith, ap, sym, ◌∙◌, subst, add-one}
 use Rattle.std.specs.Prelude.{ℤ, All}
 use Rattle.std.specs.List.{slice_range}
-use Rattle.std.proofs.lemmas.Bool.{cases_lt}
-use Rattle.std.proofs.lemmas.List.{length-drop, length_push, get_or_push, get_or_append_left, get_or_default, get_or-take, get_or-drop, map_more}
+use Rattle.std.proofs.lemmas.List.{length-drop, get_or_default, get_or-take, get_or-drop, map_more}
 use Rattle.std.proofs.lemmas.List.Elements.{All-get_or}
 use Rattle.pf_model.specs.Fraction.{Fraction}
 use Rattle.pf_model.specs.Answer.{Curve, IsFractionShape, IsWithinSize, IsFlowShape, IsCurveShape}
@@ -18,6 +17,7 @@ use Rattle.pf_select.proofs.Soundness.{certificate_proves}
 use Rattle.pf_select.proofs.NetArcs.{arcs_full, length_charges}
 use Rattle.pf_select.proofs.NetCuts.{length_selection}
 use Rattle.pf_select.proofs.CarriedBack.{carried_certifies}
+use Rattle.pf_model.proofs.Facts.{item_more, more_full}
 
 -- the parts outside a cut
 pub outside_more : (cut : List Bool) (i : ℕ) (old new : List Bool) (x : Bool) → i + 1 < length cut → old ≡ map not (take i (drop 1 cut)) →
@@ -28,19 +28,6 @@ outside_more cut i old new x low before step here =
     let there : get_or (drop 1 cut) i false ≡ get_or cut (i + 1) false = get_or-drop 1 cut i false ∙ ap (λ n. get_or cut n false) one in
     step ∙ ap (λ l. l ++ x ∷ []) before ∙ ap (λ b. map not (take i (drop 1 cut)) ++ b ∷ []) (here ∙ ap not (sym there))
     ∙ sym (map_more not (drop 1 cut) i false (omega (arith, full, low)))
-
--- one item more of a list
-item_more : {X : Type 0} (old new : List X) (x d : X) (j : ℕ) (f : ℕ → X) → length old ≡ j → new ≡ old ++ x ∷ [] → ((k : ℕ) → k < j → get_or old k d ≡ f k) →
-    x ≡ f j → (k : ℕ) → k < j + 1 → get_or new k d ≡ f k
-item_more old new x d j f full step before here k low = elim (cases_lt k j) [
-  | inl less ↦ ap (λ l. get_or l k d) step ∙ get_or_append_left old (x ∷ []) d k (omega (arith, less, full)) ∙ before k less
-  | inr most ↦
-      let e : j ≡ k = omega (arith, low, most) in
-      ap (λ l. get_or l k d) step ∙ get_or_push old x d k (full ∙ e) ∙ here ∙ ap f e
-]
-
-more_full : {X : Type 0} (old new : List X) (x : X) (j : ℕ) → length old ≡ j → new ≡ old ++ x ∷ [] → length new ≡ j + 1
-more_full old new x j full step = ap length step ∙ length_push old x ∙ ap (λ n. n + 1) full
 
 pub prices_begin : (p : SelectionProblem) (points : List Fraction) → ArePrices p points [] 0
 prices_begin p points = record { full = refl; each = λ j low. absurd (omega (arith, low)) }

@@ -1,5 +1,5 @@
 -- What certifies a schedule proves it best.
-use Rattle.std.proofs.Common.{◌≡◌, ℕ, zero, suc, ◌<◌, ◌≤◌, List, [], ◌∷◌, length, refl, Bool, true, false, cond, not, arith, ap, sym, ◌∙◌, inl, inr}
+use Rattle.std.proofs.Common.{◌≡◌, ℕ, zero, suc, ◌<◌, ◌≤◌, List, [], ◌∷◌, length, refl, Bool, true, false, not, arith, ap, sym, ◌∙◌, inl, inr}
 use Rattle.std.specs.Prelude.{ℤ, ◌+ℤ◌, ◌-ℤ◌, ◌*ℤ◌, ◌≤ℤ◌, ◌<ℤ◌, pos}
 use Rattle.std.proofs.lemmas.Int.{ints, by_lt_z}
 use Rattle.std.proofs.lemmas.Bool.{cases_Bool, both_ways}
@@ -12,7 +12,8 @@ use Rattle.pf_select.specs.Problem.{SelectionProblem, IsSelectionProblem, produc
 use Rattle.pf_select.specs.Certificate.{charged_on, KeepsRules, CertifiesPrice, IsNeeded, charges_at, CertifiesSchedule}
 use Rattle.pf_select.specs.Reduction.{whole_gain}
 use Rattle.pf_select.proofs.Grouping.{listed, has_listed, sum_none}
-use Rattle.pf_select.proofs.Worths.{not_true, not_false, gained_holds, missing, gained_all, lost, gains_split, worth_most, IsTightSelection, tight_is_best, best_is_tight}
+use Rattle.pf_select.proofs.Worths.{gained_holds, missing, gained_all, lost, gains_split, worth_most, IsTightSelection, tight_is_best, best_is_tight}
+use Rattle.pf_model.proofs.Facts.{first_step, later_step, not_false, not_true, some_step}
 
 -- one price
 
@@ -171,30 +172,18 @@ greatest_between p low x high set pl px ph h k at_low at_high = record {
 
 -- sums of numbers above 0
 
-sum_low_step : (b : Bool) (x rest : ℤ) → pos 1 ≤ℤ x → pos 0 ≤ℤ rest → pos 0 ≤ℤ (cond b x (pos 0) +ℤ rest)
-sum_low_step true x rest h l = omega (arith, ints)
-sum_low_step false x rest h l = omega (arith, ints)
-
 pub sum_low : (test : ℕ → Bool) (xs : List ℤ) → ((i : ℕ) → i < length xs → pos 1 ≤ℤ at_arc xs i) → pos 0 ≤ℤ sum_of test xs
 sum_low test [] h = omega (arith, ints)
 sum_low test (x ∷ xs) h =
-    sum_low_step (test 0) x _ (h 0 (omega arith)) (sum_low (λ i. test (suc i)) xs (λ i low. h (suc i) (omega (arith, low))))
-
-sum_first : (b : Bool) (x rest : ℤ) → b ≡ true → pos 1 ≤ℤ x → pos 0 ≤ℤ rest → pos 1 ≤ℤ (cond b x (pos 0) +ℤ rest)
-sum_first true x rest e h l = omega (arith, ints)
-sum_first false x rest e h l = cc
-
-sum_later : (b : Bool) (x rest : ℤ) → pos 1 ≤ℤ x → pos 1 ≤ℤ rest → pos 1 ≤ℤ (cond b x (pos 0) +ℤ rest)
-sum_later true x rest h l = omega (arith, ints)
-sum_later false x rest h l = omega (arith, ints)
+    some_step (test 0) x _ (h 0 (omega arith)) (sum_low (λ i. test (suc i)) xs (λ i low. h (suc i) (omega (arith, low))))
 
 pub sum_some : (test : ℕ → Bool) (xs : List ℤ) (i : ℕ) → ((i : ℕ) → i < length xs → pos 1 ≤ℤ at_arc xs i) → i < length xs → test i ≡ true →
     pos 1 ≤ℤ sum_of test xs
 sum_some test [] i h low e = absurd (omega (arith, low))
 sum_some test (x ∷ xs) zero h low e =
-    sum_first (test 0) x _ e (h 0 (omega arith)) (sum_low (λ j. test (suc j)) xs (λ j less. h (suc j) (omega (arith, less))))
+    first_step (test 0) x _ e (h 0 (omega arith)) (sum_low (λ j. test (suc j)) xs (λ j less. h (suc j) (omega (arith, less))))
 sum_some test (x ∷ xs) (suc i) h low e =
-    sum_later (test 0) x _ (h 0 (omega arith))
+    later_step (test 0) x _ (h 0 (omega arith))
     (sum_some (λ j. test (suc j)) xs i (λ j less. h (suc j) (omega (arith, less))) (omega (arith, low)) e)
 
 -- the price 0

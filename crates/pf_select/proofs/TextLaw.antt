@@ -1,5 +1,5 @@
 -- A text of the kind `select` that is accepted gives a problem within its limits.
-use Rattle.std.proofs.Common.{◌≡◌, ℕ, zero, suc, ◌+◌, ◌<◌, ◌≤◌, Bool, true, false, List, [], ◌∷◌, ◌++◌, length, get_or, map, Option, Some, None, Result, Ok, refl, sym, ap, subst, ◌∙◌, arith, length-append}
+use Rattle.std.proofs.Common.{◌≡◌, ℕ, zero, suc, ◌+◌, ◌<◌, ◌≤◌, List, [], ◌∷◌, ◌++◌, length, get_or, map, Option, Some, None, Ok, refl, sym, ap, subst, ◌∙◌, arith, length-append}
 use Rattle.std.specs.Prelude.{ℤ, pos, ◌≤ℤ◌, nat_abs, is_some, All, IfSome, replicate, slice_set, slice_index_or}
 use Rattle.std.specs.Option.{option_map}
 use Rattle.std.proofs.lemmas.Int.{ints}
@@ -8,10 +8,9 @@ use Rattle.std.proofs.lemmas.List.{length-set, length-map, length-replicate}
 use Rattle.std.proofs.lemmas.List.Elements.{All-nil, All-cons, All-append, All-head, All-tail, All-set}
 use Rattle.std.proofs.Math.ListN.{get_or-map}
 use Rattle.pf_model.specs.Cut.{at_arc}
-use Rattle.pf_text.specs.declared.RuleKind.{RuleKind}
 use Rattle.pf_text.specs.Lines.{Line}
-use Rattle.pf_text.specs.Kinds.{Fits, State, Accepted, problem_of_lines, broken_if}
-use Rattle.pf_text.proofs.KindsLaw.{Keeps, IsInvariant, lines_claims, problem_claims}
+use Rattle.pf_text.specs.Kinds.{Fits, State, Accepted, problem_of_lines}
+use Rattle.pf_text.proofs.KindsLaw.{Keeps, IsInvariant, lines_claims, problem_claims, broken_ok}
 use Rattle.pf_select.specs.Problem.{SelectionProblem, IsBoundedProblem}
 use Rattle.pf_select.specs.Text.{Given, select, select_header, part_count, product_count, need_count, index_of, part_form, product_form, need_form, all_given, problem_by}
 use Rattle.pf_select.specs.Laws.{AcceptedIsBounded}
@@ -40,10 +39,6 @@ record IsGoodState (state : State Given) : Type 0 where
   pub few : state.counted_lines ≤ need_count state.header_numbers
 
 -- ---- small facts
-
-broken_ok : {X : Type 0} (test : Bool) (rule : RuleKind) (next : Result X RuleKind) (x : X) → broken_if test rule next ≡ Ok x → (test ≡ false) × (next ≡ Ok x)
-broken_ok true rule next x e = absurd cc
-broken_ok false rule next x e = (refl, e)
 
 index_below : (v : ℤ) (n : ℕ) → pos 1 ≤ℤ v → v ≤ℤ pos n → index_of v < n
 index_below v n low high = omega (arith, ints, low, high)

@@ -9,21 +9,14 @@ use Rattle.pf_model.specs.Fraction.{Fraction}
 use Rattle.pf_model.specs.Cut.{sum_where, at_arc, has}
 use Rattle.pf_model.proofs.Integers.{mul_add}
 use Rattle.pf_model.proofs.Sums.{sum_where_split, sum_where_most, sum_where_tight, sum_where_empty}
-use Rattle.pf_model.proofs.Duality.{zeros, at_zeros}
+use Rattle.pf_model.proofs.Duality.{zeros, at_zeros, sum_zeros, zeros_full}
 use Rattle.pf_select.specs.Problem.{SelectionProblem, IsSelectionProblem, product_at, part_at, is_gained, sum_of, gain_of, cost_of, worth}
 use Rattle.pf_select.specs.Certificate.{charged_by, charged_on, AreCharges}
 use Rattle.pf_select.specs.Reduction.{whole_gain}
 use Rattle.pf_select.proofs.Grouping.{sum_below, IsMost, below_most, below_tight, below_same, below_times, sum_is_below, grouped, same_at}
+use Rattle.pf_model.proofs.Facts.{not_false, not_true}
 
 -- tests
-
-pub not_true : (b : Bool) → not b ≡ true → b ≡ false
-not_true true e = cc
-not_true false e = refl
-
-pub not_false : (b : Bool) → b ≡ false → not b ≡ true
-not_false true e = cc
-not_false false e = refl
 
 -- a product that is gained has its parts in the selection
 gained_first : (here rest : Bool) → (here && rest) ≡ true → (here ≡ true) × (rest ≡ true)
@@ -226,18 +219,6 @@ pub record IsTightSelection (p : SelectionProblem) (x : Fraction) (charges : Lis
   pub products : (j : ℕ) → j < length p.gains → is_gained p.needs set j ≡ false → (x.q *ℤ at_arc p.gains j) ≤ℤ charged_by p charges j
   pub idle_needs : (k : ℕ) → k < length p.needs → is_gained p.needs set (product_at p k) ≡ false → has set (part_at p k) ≡ true →
       at_arc charges k ≤ℤ pos 0
-
-zeros_full : (arcs : List (ℕ × ℕ)) → length (zeros arcs) ≡ length arcs
-zeros_full [] = refl
-zeros_full (arc ∷ arcs) = ap suc (zeros_full arcs)
-
-zero_step : (b : Bool) (a : ℤ) → a ≡ pos 0 → cond b (pos 0) (pos 0) +ℤ a ≡ pos 0
-zero_step true a h = omega (arith, ints)
-zero_step false a h = omega (arith, ints)
-
-sum_zeros : (test : ℕ × ℕ → Bool) (arcs : List (ℕ × ℕ)) → sum_where test arcs (zeros arcs) ≡ pos 0
-sum_zeros test [] = refl
-sum_zeros test (arc ∷ arcs) = zero_step (test arc) _ (sum_zeros test arcs)
 
 idle_both : (a b : Bool) → a ≡ false → b ≡ true → (not a && b) ≡ true
 idle_both a b e f = rw (e, f) refl

@@ -3,7 +3,7 @@ use Rattle.std.proofs.Common.{◌≡◌, ◌≢◌, ℕ, ◌+◌, ◌*◌, ◌^�
 use Rattle.std.specs.Prelude.{ℤ, ◌+ℤ◌, ◌*ℤ◌, ◌≤ℤ◌, pos, neg_ℤ, ◌==◌}
 use Rattle.std.proofs.lemmas.Int.{ints}
 use Rattle.std.proofs.lemmas.Bool.{cases_eq, ne_eqb}
-use Rattle.std.proofs.lemmas.List.{length-map, get_or-map, get_or_default, get_or-set_same, get_or-set_other}
+use Rattle.std.proofs.lemmas.List.{length-map, get_or_default, get_or-set_same, get_or-set_other}
 use Rattle.pf_model.specs.Cut.{at_arc}
 use Rattle.pf_model.proofs.Integers.{add_mul}
 use Rattle.pf_model.proofs.Sums.{sum_where_more, sum_all}
@@ -11,17 +11,14 @@ use Rattle.pf_frame.proofs.Balances.{raised, raised_length}
 use Rattle.pf_share.specs.Problem.{ShareProblem, tail_of, head_of}
 use Rattle.pf_share.specs.Certificate.{SharesAnswer, node_level, is_lower}
 use Rattle.pf_share.specs.Tests.{whole_of, brought, AreOwn, first_entering, AreFirstBalances, AreBalances, AreKept, AreZero}
-
--- numbers of a problem
-pub at_numbers : (numbers : List ℕ) (i : ℕ) → i < length numbers → at_arc (map pos numbers) i ≡ pos (get_or numbers i 0)
-at_numbers numbers i low = get_or-map pos numbers i 0 (pos 0) low
+use Rattle.pf_model.proofs.Facts.{number_at}
 
 pub length_numbers : (numbers : List ℕ) → length (map pos numbers) ≡ length numbers
 length_numbers numbers = length-map numbers pos
 
 pub high_number : (numbers : List ℕ) (i y bound : ℕ) → i < length numbers → y ≡ get_or numbers i y → at_arc (map pos numbers) i ≤ℤ pos bound → y ≤ bound
 high_number numbers i y bound low e h =
-    let a = at_numbers numbers i low in
+    let a = number_at numbers i low in
     let b = e ∙ get_or_default numbers i y 0 low in
     omega (arith, ints, a, b, h)
 

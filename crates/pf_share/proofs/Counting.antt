@@ -13,6 +13,7 @@ use Rattle.pf_model.proofs.Balance.{excess, excess_below, more_excess, none_belo
 use Rattle.pf_model.proofs.Affine.{sum_where_scaled}
 use Rattle.pf_share.specs.Problem.{ShareProblem, IsCarried}
 use Rattle.pf_share.specs.Grouped.{tabled}
+use Rattle.pf_model.proofs.Facts.{none_times}
 
 -- a list of the first values of a function
 pub length_tabled : {X : Type 0} (f : ℕ → X) (n : ℕ) → length (tabled f n) ≡ n
@@ -96,9 +97,6 @@ times_step true k s t x y h e = let here : x ≡ k *ℤ y = e refl in omega (ari
 times_step false k s t x y h e =
     let none : k *ℤ pos 0 ≡ pos 0 = omega (arith, ints) in
     omega (arith, ints, h, none, mul_add k t (pos 0))
-
-none_times : (k : ℤ) → pos 0 ≡ k *ℤ pos 0
-none_times k = omega (arith, ints)
 
 pub side_times : (f g : ℕ → ℤ) (k : ℤ) (side : List Bool) (n : ℕ) → ((v : ℕ) → v < n → f v ≡ k *ℤ g v) → sum_side f side n ≡ k *ℤ sum_side g side n
 side_times f g k side zero h = none_times k

@@ -7,14 +7,11 @@ use Rattle.pf_model.specs.Cut.{at_arc}
 use Rattle.pf_share.specs.Problem.{IsFeasible, IsInUnit}
 use Rattle.pf_share.specs.Certificate.{level_at}
 use Rattle.pf_share.specs.Worked.{fraction, three, four, narrow_arc, two_levels, level_of_nothing, NarrowArc, OneLevel, NotFull, NoWayOut, Thirds}
-
-one : (P : ℕ → Type 0) → P 0 → (k : ℕ) → k < 1 → P k
-one P a zero low = a
-one P a (suc k) low = absurd (omega (arith, low))
+use Rattle.pf_model.proofs.Facts.{below_one}
 
 two : (P : ℕ → Type 0) → P 0 → P 1 → (k : ℕ) → k < 2 → P k
 two P a b zero low = a
-two P a b (suc k) low = one (λ n. P (suc n)) b k (omega (arith, low))
+two P a b (suc k) low = below_one (λ n. P (suc n)) b k (omega (arith, low))
 
 triple : (P : ℕ → Type 0) → P 0 → P 1 → P 2 → (k : ℕ) → k < 3 → P k
 triple P a b c zero low = a
@@ -29,7 +26,7 @@ narrow = record {
   levels = record {
     parameters = two (λ j. _) (omega (arith, ints)) (omega (arith, ints));
     low = two (λ j. _) (omega (arith, ints)) (omega (arith, ints));
-    rise = λ j low. one (λ k. IsBelow (level_at two_levels.levels (suc k)) (level_at two_levels.levels (suc (suc k)))) (omega (arith, ints)) j (omega (arith, low));
+    rise = λ j low. below_one (λ k. IsBelow (level_at two_levels.levels (suc k)) (level_at two_levels.levels (suc (suc k)))) (omega (arith, ints)) j (omega (arith, low));
   };
   groups = record {
     full = refl;
@@ -59,7 +56,7 @@ stuck = record {
   levels = record {
     parameters = two (λ j. _) (omega (arith, ints)) (omega (arith, ints));
     low = two (λ j. _) (omega (arith, ints)) (omega (arith, ints));
-    rise = λ j low. one (λ k. IsBelow (level_at level_of_nothing.levels (suc k)) (level_at level_of_nothing.levels (suc (suc k)))) (omega (arith, ints)) j (omega (arith, low));
+    rise = λ j low. below_one (λ k. IsBelow (level_at level_of_nothing.levels (suc k)) (level_at level_of_nothing.levels (suc (suc k)))) (omega (arith, ints)) j (omega (arith, low));
   };
   groups = record {
     full = refl;
@@ -73,10 +70,10 @@ stuck = record {
   };
   flow = record {
     full = refl;
-    low = one (λ i. _) (omega (arith, ints));
-    high = one (λ i. _) (omega (arith, ints));
-    upward = one (λ i. _) (λ h. refl);
-    downward = one (λ i. _) (λ h. absurd (omega (arith, h)));
+    low = below_one (λ i. _) (omega (arith, ints));
+    high = below_one (λ i. _) (omega (arith, ints));
+    upward = below_one (λ i. _) (λ h. refl);
+    downward = below_one (λ i. _) (λ h. absurd (omega (arith, h)));
     kept = triple (λ v. _) (λ h. refl) (λ h. refl) (λ h. absurd (h refl));
   };
 }
@@ -84,8 +81,8 @@ stuck = record {
 pub in_thirds : Thirds
 in_thirds = record {
   levels = record {
-    parameters = one (λ j. _) (omega (arith, ints));
-    low = one (λ j. _) (omega (arith, ints));
+    parameters = below_one (λ j. _) (omega (arith, ints));
+    low = below_one (λ j. _) (omega (arith, ints));
     rise = λ j low. absurd (omega (arith, low));
   };
   groups = record {
@@ -93,7 +90,7 @@ in_thirds = record {
     low = each_of_four (λ v. _) (omega (arith, ints)) (omega (arith, ints)) (omega (arith, ints)) (omega (arith, ints));
     high = each_of_four (λ v. _) (omega (arith, ints)) (omega (arith, ints)) (omega (arith, ints)) (omega (arith, ints));
     sources = each_of_four (λ v. _) (λ h. omega (arith, ints)) (λ h. omega (arith, ints)) (λ h. omega (arith, ints)) (λ h. absurd (omega (arith, ints, h)));
-    some = one (λ j. _) (record { node = 0; there = omega arith; source = omega (arith, ints); group_is = refl });
+    some = below_one (λ j. _) (record { node = 0; there = omega arith; source = omega (arith, ints); group_is = refl });
     sink = refl;
   };
   flow = record {

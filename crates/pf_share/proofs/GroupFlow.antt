@@ -13,34 +13,32 @@ use Rattle.pf_share.specs.Certificate.{SharesAnswer, group_at, node_level, rank_
 use Rattle.pf_share.specs.Grouped.{tabled, group_problem, one, answer_of}
 use Rattle.pf_share.proofs.Counting.{length_tabled, at_tabled}
 use Rattle.pf_share.proofs.NetArcs.{at_net, arcs_full, each_arc, ends_many, flow_capacity, source_capacity}
-use Rattle.pf_share.proofs.Soundness.{abs_of, rank_zero, rank_group, lower_told}
+use Rattle.pf_share.proofs.Soundness.{abs_of}
 use Rattle.pf_share.proofs.GroupNet.{AreFine, fine_levels, proper_one, tight_one, is_problem, ends_there, end_is, capacity_here, out_there, in_there, supply_apart, whole_low}
-use Rattle.pf_share.proofs.ReadOff.{arc_filled, source_filled, alone, in_alone, alone_cut, off_by, on_by}
+use Rattle.pf_share.proofs.ReadOff.{arc_filled, source_filled, alone, in_alone, alone_cut, off_by, on_by, lower_told, rank_none, rank_some}
+use Rattle.pf_model.proofs.Facts.{not_lower}
 
 -- ranks of groups
 
 rank_most : (count group : ℕ) → group ≤ count → rank_of count group ≤ suc count
 rank_most count group h = elim (cases_eq group 0) [
-  | inl none ↦ (let e = rank_zero count group none in omega (arith, e))
-  | inr some ↦ (let e = rank_group count group some in omega (arith, e, h))
+  | inl none ↦ (let e = rank_none count group none in omega (arith, e))
+  | inr some ↦ (let e = rank_some count group some in omega (arith, e, h))
 ]
 
 -- a group that is lower than another is not group 0
 lower_some : (count x y : ℕ) → y ≤ count → rank_of count x < rank_of count y → x ≢ 0
-lower_some count x y low less none = let e = rank_zero count x none in let most = rank_most count y low in absurd (omega (arith, e, most, less))
+lower_some count x y low less none = let e = rank_none count x none in let most = rank_most count y low in absurd (omega (arith, e, most, less))
 
 -- group 0 is higher than all others
 lower_than_none : (count x y : ℕ) → x ≤ count → x ≢ 0 → y ≡ 0 → rank_of count x < rank_of count y
-lower_than_none count x y low some none = let e = rank_zero count y none in let f = rank_group count x some in omega (arith, e, f, low)
+lower_than_none count x y low some none = let e = rank_none count y none in let f = rank_some count x some in omega (arith, e, f, low)
 
 is_lower_of : (x y : ℕ) → x < y → nat_lt x y ≡ true
 is_lower_of x y h = grind (arith, nat_tests)
 
 not_lower_of : (x y : ℕ) → y ≤ x → nat_lt x y ≡ false
 not_lower_of x y h = grind (arith, nat_tests)
-
-lower_false : (x y : ℕ) → nat_lt x y ≡ false → y ≤ x
-lower_false x y h = grind (arith, nat_tests)
 
 not_zero : (n : ℕ) → n ≢ 0 → not (n == 0) ≡ true
 not_zero n h = grind (arith, nat_tests)
@@ -150,7 +148,7 @@ module _ (p : ShareProblem) (a : SharesAnswer) (h : IsShareProblem p) (c : Certi
             omega (arith, ints, e, f, k))
         | inr up ↦
             (let f = c.flow.high i low in
-            let k = capacity_up i low (lower_false (rank (head_of p i)) (rank (tail_of p i)) up) in
+            let k = capacity_up i low (not_lower (rank (head_of p i)) (rank (tail_of p i)) up) in
             omega (arith, ints, e, f, k))
       ]
 
@@ -239,7 +237,7 @@ module _ (p : ShareProblem) (a : SharesAnswer) (h : IsShareProblem p) (c : Certi
             let k = capacity_up i less (omega (arith, rise)) in
             omega (arith, ints, e, f, k))
         | inr stays ↦
-            (let fall = lower_false (rank (tail_of p i)) (rank (head_of p i)) stays in
+            (let fall = not_lower (rank (tail_of p i)) (rank (head_of p i)) stays in
             let none = out_none (head_of p i) w (sym (ap (has lower) (head_stays i less fall)) ∙ outer) in
             let some = held_some (tail_of p i) t (sym (ap (has lower) (tail_stays i less)) ∙ inner) in
             let rise = lower_than_none count (group_at a.groups (tail_of p i)) (group_at a.groups (head_of p i)) (group_within (tail_of p i) t) some none in
@@ -255,7 +253,7 @@ module _ (p : ShareProblem) (a : SharesAnswer) (h : IsShareProblem p) (c : Certi
             (let rise = lower_told (rank (tail_of p i)) (rank (head_of p i)) up in
             absurd (both_ways _ (ap (has lower) (head_up i less rise) ∙ sink_out) inner))
         | inr stays ↦
-            (let fall = lower_false (rank (tail_of p i)) (rank (head_of p i)) stays in
+            (let fall = not_lower (rank (tail_of p i)) (rank (head_of p i)) stays in
             let some = held_some (head_of p i) w (sym (ap (has lower) (head_stays i less fall)) ∙ inner) in
             let none = out_none (tail_of p i) t (sym (ap (has lower) (tail_stays i less)) ∙ outer) in
             let rise = lower_than_none count (group_at a.groups (head_of p i)) (group_at a.groups (tail_of p i)) (group_within (head_of p i) w) some none in
@@ -310,7 +308,7 @@ module _ (p : ShareProblem) (a : SharesAnswer) (h : IsShareProblem p) (c : Certi
           omega (arith, ints, k, w))
       | inr up ↦
           (let m = most i low in
-          let k = capacity_up i low (lower_false (rank (head_of p i)) (rank (tail_of p i)) up) in
+          let k = capacity_up i low (not_lower (rank (head_of p i)) (rank (tail_of p i)) up) in
           omega (arith, ints, m, k))
     ]
 

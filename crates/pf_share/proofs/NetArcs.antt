@@ -14,6 +14,7 @@ use Rattle.pf_model.proofs.Sums.{sum_where_empty}
 use Rattle.pf_model.proofs.Affine.{no_arc}
 use Rattle.pf_share.specs.Problem.{ShareProblem, IsShareProblem}
 use Rattle.pf_share.specs.Reduction.{flow_arc, source_arc, flow_arcs, source_arcs, share_net}
+use Rattle.pf_model.proofs.Facts.{add_before_by, none_before}
 
 -- how many
 
@@ -116,17 +117,11 @@ source_capacity p x v h low =
 
 -- sums over both kinds of arcs
 
-append_step : (here a b c : ℤ) → a ≡ b +ℤ c → here +ℤ a ≡ (here +ℤ b) +ℤ c
-append_step here a b c h = omega (arith, ints, h)
-
-none_before : (a : ℤ) → a ≡ pos 0 +ℤ a
-none_before a = omega (arith, ints)
-
 sum_append : (test : ℕ × ℕ → Bool) (xs ys : List AffineArc) (numbers : List ℤ) →
     sum_where test (map ends_of (xs ++ ys)) numbers ≡ sum_where test (map ends_of xs) numbers +ℤ sum_where test (map ends_of ys) (drop (length xs) numbers)
 sum_append test [] ys numbers = none_before _
 sum_append test (x ∷ xs) ys [] = sym (ap (λ n. pos 0 +ℤ n) (sum_where_empty test (map ends_of ys)))
-sum_append test (x ∷ xs) ys (n ∷ numbers) = append_step (cond (test (ends_of x)) n (pos 0)) _ _ _ (sum_append test xs ys numbers)
+sum_append test (x ∷ xs) ys (n ∷ numbers) = add_before_by (cond (test (ends_of x)) n (pos 0)) _ _ _ (sum_append test xs ys numbers)
 
 flow_sum : (test : ℕ × ℕ → Bool) (ends : List (ℕ × ℕ)) (cs numbers : List ℤ) → length cs ≡ length ends →
     sum_where test (map ends_of (flow_arcs ends cs)) numbers ≡ sum_where test ends numbers
@@ -201,7 +196,7 @@ beside number side arcs = sum_where (leaves side) (map ends_of arcs) (map number
 
 beside_append : (number : AffineArc → ℤ) (side : List Bool) (xs ys : List AffineArc) → beside number side (xs ++ ys) ≡ beside number side xs +ℤ beside number side ys
 beside_append number side [] ys = none_before _
-beside_append number side (x ∷ xs) ys = append_step (cond (leaves side (ends_of x)) (number x) (pos 0)) _ _ _ (beside_append number side xs ys)
+beside_append number side (x ∷ xs) ys = add_before_by (cond (leaves side (ends_of x)) (number x) (pos 0)) _ _ _ (beside_append number side xs ys)
 
 zero_step : (b : Bool) (s : ℤ) → s ≡ pos 0 → cond b (pos 0) (pos 0) +ℤ s ≡ pos 0
 zero_step true s h = omega (arith, ints, h)

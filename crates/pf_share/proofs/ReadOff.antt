@@ -13,7 +13,7 @@ use Rattle.pf_model.specs.Curve.{IsCurve, CertifiesCurve, point_at, cut_at, flow
 use Rattle.pf_model.proofs.Integers.{mul_most, mul_nonneg, mul_comm}
 use Rattle.pf_model.proofs.Sums.{sum_where_split}
 use Rattle.pf_model.proofs.Affine.{proper_at, capacity_of_line}
-use Rattle.pf_model.proofs.Duality.{IsTight, tight_from_value, leaves_parts}
+use Rattle.pf_model.proofs.Duality.{IsTight, tight_from_value, leaves_parts, enters_by, leaves_by}
 use Rattle.pf_model.proofs.Certificate.{at_most_reflexive, point_is_parameter, point_inside}
 use Rattle.pf_share.specs.Problem.{ShareProblem, IsShareProblem, IsBoundedSharing, no_share, tail_of, head_of}
 use Rattle.pf_share.specs.Certificate.{SharesAnswer, level_at, group_at, node_level, rank_of, rank_at, is_lower, entering, AreLevels, HasSource, CertifiesShares}
@@ -24,12 +24,6 @@ use Rattle.pf_share.proofs.NetArcs.{at_net, ends_many, flow_ends, source_ends, f
 use Rattle.pf_share.proofs.NetBuilt.{net_built}
 
 -- arcs across a side that a flow fills
-
-leaves_by : (side : List Bool) (arc : ℕ × ℕ) → has side arc.0 ≡ true → has side arc.1 ≡ false → leaves side arc ≡ true
-leaves_by side arc h out = rw (h, out) refl
-
-enters_by : (side : List Bool) (arc : ℕ × ℕ) → has side arc.1 ≡ true → has side arc.0 ≡ false → enters side arc ≡ true
-enters_by side arc h out = rw (h, out) refl
 
 module _ (p : ShareProblem) (h : IsShareProblem p) (x : Fraction) (flow : List ℤ) (side : List Bool) (within : IsWithin (at_net p x) flow) (t : IsTight (at_net p x) flow side) where
   pub arc_filled : (i : ℕ) → i < length p.ends → has side (tail_of p i) ≡ true → has side (head_of p i) ≡ false → at_arc flow i ≡ at_arc p.capacities i *ℤ x.q
@@ -72,10 +66,10 @@ group_some first cuts j low = let e : eqb j cuts ≡ false = grind (arith, nat_t
 pub group_last : (first cuts j : ℕ) → j ≡ cuts → group_of first cuts j ≡ 0
 group_last first cuts j same = let e : eqb j cuts ≡ true = grind (arith, nat_tests) in rw e refl
 
-rank_none : (count g : ℕ) → g ≡ 0 → rank_of count g ≡ suc count
+pub rank_none : (count g : ℕ) → g ≡ 0 → rank_of count g ≡ suc count
 rank_none count g e = rw e refl
 
-rank_some : (count g : ℕ) → g ≢ 0 → rank_of count g ≡ g
+pub rank_some : (count g : ℕ) → g ≢ 0 → rank_of count g ≡ g
 rank_some count g h = let e : eqb g 0 ≡ false = grind (arith, nat_tests) in rw e refl
 
 rank_join : (first cuts count j : ℕ) → first + count ≡ cuts → j ≤ cuts → first ≤ j → rank_of count (group_of first cuts j) + first ≡ suc j
@@ -88,13 +82,13 @@ rank_join first cuts count j e within least = elim (cases_eq j cuts) [
       omega (arith, a, g, least)
 ]
 
-lower_told : (a b : ℕ) → nat_lt a b ≡ true → a < b
+pub lower_told : (a b : ℕ) → nat_lt a b ≡ true → a < b
 lower_told a b h = grind (arith, nat_tests)
 
-lower_not : (a b : ℕ) → not (nat_lt a b) ≡ true → b ≤ a
+pub lower_not : (a b : ℕ) → not (nat_lt a b) ≡ true → b ≤ a
 lower_not a b h = grind (arith, nat_tests)
 
-node_told : (n v : ℕ) → (n == v) ≡ true → n ≡ v
+pub node_told : (n v : ℕ) → (n == v) ≡ true → n ≡ v
 node_told n v h = grind (arith, nat_tests)
 
 one_times : (x : ℤ) → x ≡ pos 1 *ℤ x

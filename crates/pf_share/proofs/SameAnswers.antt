@@ -19,16 +19,13 @@ use Rattle.pf_share.specs.Text.{levels_text, shares_lines}
 use Rattle.pf_share.specs.Right.{IsSharesShape}
 use Rattle.pf_share.specs.Laws.{SharesFromText}
 use Rattle.pf_text.proofs.SameParts.{same_fraction}
-use Rattle.pf_share.proofs.ShareLines.{same_front}
 use Rattle.pf_share.proofs.TextLemmas.{same_answer, row_of_groups, level_lines, front_lines, last_lines, flow_lines, node_lines, later_lines, all_lines}
+use Rattle.pf_model.proofs.Facts.{cons_same, same_front}
 
 -- ---- parts
 
 abbrev HasDigits : ℤ → Type 0
 HasDigits x = nat_abs x < 10 ^ 64
-
-cons_same : {X : Type 0} (x y : X) (xs ys : List X) → x ≡ y → xs ≡ ys → x ∷ xs ≡ y ∷ ys
-cons_same x y xs ys e f = ap (λ z. z ∷ xs) e ∙ ap (λ zs. y ∷ zs) f
 
 same_numbers : (a b : List ℤ) → AllByRecursion HasDigits a → AllByRecursion HasDigits b → map signed_decimal a ≡ map signed_decimal b → a ≡ b
 same_numbers [] [] sa sb e = refl

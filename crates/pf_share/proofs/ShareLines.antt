@@ -1,8 +1,7 @@
 -- The lines of levels and of shares, one after another.
-use Rattle.std.proofs.Common.{◌≡◌, ℕ, suc, Bool, false, ◌+◌, ◌<◌, ◌≤◌, List, [], ◌∷◌, ◌++◌, length, get_or, drop, refl, arith, ap, sym, add-one, ◌∙◌, append_assoc, length-append}
+use Rattle.std.proofs.Common.{◌≡◌, ℕ, suc, Bool, ◌+◌, ◌<◌, ◌≤◌, List, [], ◌∷◌, ◌++◌, length, get_or, drop, refl, arith, ap, sym, add-one, ◌∙◌, append_assoc, length-append}
 use Rattle.std.specs.Prelude.{ℤ, ◌≤ℤ◌, ◌==◌, if◌then◌else◌, pos, nat_abs, All}
 use Rattle.std.proofs.lemmas.Int.{ints}
-use Rattle.std.proofs.lemmas.Bool.Decides.{nat_tests}
 use Rattle.std.proofs.lemmas.List.{append-nil}
 use Rattle.std.proofs.Math.Seq.{drop-cons}
 use Rattle.pf_model.specs.Fraction.{Fraction}
@@ -11,6 +10,7 @@ use Rattle.pf_model.specs.Cut.{at_arc}
 use Rattle.pf_lines.proofs.ItemsTaken.{Items, Stand}
 use Rattle.pf_share.specs.Certificate.{level_at}
 use Rattle.pf_share.specs.Text.{level_line, levels_text, share_line, node_text, shares_lines}
+use Rattle.pf_model.proofs.Facts.{not_zero, same_front}
 
 -- ---- levels
 
@@ -48,9 +48,6 @@ levels_bytes j (level ∷ levels) =
 
 pub no_source : (levels : List Fraction) (v : ℕ) (weight group : ℤ) → nat_abs weight ≡ 0 → node_text levels v weight group ≡ []
 no_source levels v weight group e = ap (λ n. if n == 0 then [] else share_line (v + 1) (level_at levels (nat_abs group)) weight) e
-
-not_zero : (n : ℕ) → 1 ≤ n → (n == 0) ≡ false
-not_zero n some = grind (arith, nat_tests)
 
 is_source : (levels : List Fraction) (v : ℕ) (weight group : ℤ) → 1 ≤ nat_abs weight →
     share_line (v + 1) (level_at levels (nat_abs group)) weight ≡ node_text levels v weight group
@@ -96,10 +93,6 @@ read_more old now new whole left piece later h e f = record {
   split = h.split ∙ ap (λ (t : List ℕ). h.passed ++ t) e ∙ sym (append_assoc h.passed piece later);
   taken = h.taken ∙ ap (λ (t : List ℕ). h.passed ++ t) f ∙ sym (append_assoc h.passed piece new);
 }
-
-pub same_front : (front a b : List ℕ) → front ++ a ≡ front ++ b → a ≡ b
-same_front [] a b e = e
-same_front (x ∷ front) a b e = same_front front a b (ap (drop 1) e)
 
 -- what stands there now, where the whole text stood there first
 pub read_front : (old now whole left rest : List ℕ) → HasRead old now whole left → old ≡ whole ++ rest → now ≡ left ++ rest

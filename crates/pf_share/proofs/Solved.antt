@@ -3,8 +3,7 @@ use Rattle.std.proofs.Common.{◌≡◌, ℕ, zero, suc, ◌+◌, ◌-◌, ◌<�
 use Rattle.std.specs.Prelude.{ℤ, pos, All}
 use Rattle.std.proofs.lemmas.Int.{ints}
 use Rattle.std.proofs.lemmas.Bool.{cases_lt}
-use Rattle.std.proofs.lemmas.Grind.{common_steps}
-use Rattle.std.proofs.lemmas.List.{length_push, get_or_push, get_or_append_left, get_or_default}
+use Rattle.std.proofs.lemmas.List.{get_or_push, get_or_append_left, get_or_default}
 use Rattle.std.proofs.lemmas.List.Elements.{All-get_or}
 use Rattle.pf_model.specs.declared.AffineArc.{AffineArc}
 use Rattle.pf_model.specs.Fraction.{Fraction, lowest}
@@ -23,11 +22,10 @@ use Rattle.pf_share.specs.Reduction.{flow_arc, source_arc, flow_arcs, source_arc
 use Rattle.pf_share.specs.Grouped.{answer_of, HasFlow, IsStill}
 use Rattle.pf_share.proofs.Soundness.{certified_fair}
 use Rattle.pf_share.proofs.FlowExists.{flow_exists}
+use Rattle.pf_model.proofs.Sums.{take_whole}
+use Rattle.pf_model.proofs.Facts.{item_more, more_full}
 
 -- the arcs, one after the other
-
-take_whole : {X : Type 0} (xs : List X) (i : ℕ) → length xs ≤ i → take i xs ≡ xs
-take_whole xs i h = grind (arith, common_steps)
 
 flows_suc : (ends : List (ℕ × ℕ)) (cs : List ℤ) (k : ℕ) → length cs ≡ length ends → k < length ends →
     flow_arcs (take (suc k) ends) (take (suc k) cs) ≡ flow_arcs (take k ends) (take k cs) ++ (flow_arc (get_or ends k (0, 0)) (at_arc cs k) ∷ [])
@@ -86,19 +84,6 @@ pub same_net : (p : ShareProblem) (nodes sink : ℕ) (low high : Fraction) (firs
 same_net p nodes sink low high first second n t l h a b =
     same_parts (nodes + 1) (suc p.nodes) nodes p.nodes sink p.sink low no_share high highest second (share_net p).arcs
     (add-one nodes ∙ ap suc n) n t l h (b ∙ ap (λ xs. xs ++ source_arcs p.nodes 0 p.weights) a)
-
--- one item more of a list
-pub item_more : {X : Type 0} (old new : List X) (x d : X) (j : ℕ) (f : ℕ → X) → length old ≡ j → new ≡ old ++ x ∷ [] → ((k : ℕ) → k < j → get_or old k d ≡ f k) →
-    x ≡ f j → (k : ℕ) → k < j + 1 → get_or new k d ≡ f k
-item_more old new x d j f full step before here k low = elim (cases_lt k j) [
-  | inl less ↦ ap (λ l. get_or l k d) step ∙ get_or_append_left old (x ∷ []) d k (omega (arith, less, full)) ∙ before k less
-  | inr most ↦
-      let e : j ≡ k = omega (arith, low, most) in
-      ap (λ l. get_or l k d) step ∙ get_or_push old x d k (full ∙ e) ∙ here ∙ ap f e
-]
-
-pub more_full : {X : Type 0} (old new : List X) (x : X) (j : ℕ) → length old ≡ j → new ≡ old ++ x ∷ [] → length new ≡ j + 1
-more_full old new x j full step = ap length step ∙ length_push old x ∙ ap (λ n. n + 1) full
 
 pub join_more : (cuts : List (List Bool)) (old new : List ℕ) (v j : ℕ) → AreJoins cuts old v → new ≡ old ++ j ∷ [] → IsJoin cuts v j → AreJoins cuts new (v + 1)
 join_more cuts old new v j a step here =

@@ -1,7 +1,7 @@
 -- What certifies shares proves them fair: in a unit that all levels share, the numbers are one flow, which fills all arcs from the lower
 -- groups to the higher ones and none back; so no other vector brings more from the lower groups in all.
-use Rattle.std.proofs.Common.{◌≡◌, ◌≢◌, ℕ, zero, suc, ◌+◌, ◌-◌, ◌<◌, ◌≤◌, List, [], ◌∷◌, length, get_or, refl, Bool, true, false, not, ◌&&◌, eqb, arith, ap, sym, ◌∙◌, inl, inr}
-use Rattle.std.specs.Prelude.{ℤ, ◌+ℤ◌, ◌*ℤ◌, ◌≤ℤ◌, ◌<ℤ◌, pos, negsuc, nat_abs, nat_lt, nat_le, ◌==◌}
+use Rattle.std.proofs.Common.{◌≡◌, ◌≢◌, ℕ, zero, suc, ◌+◌, ◌-◌, ◌<◌, ◌≤◌, List, [], ◌∷◌, length, get_or, refl, Bool, true, false, not, ◌&&◌, arith, ap, sym, ◌∙◌, inl, inr}
+use Rattle.std.specs.Prelude.{ℤ, ◌+ℤ◌, ◌*ℤ◌, ◌≤ℤ◌, ◌<ℤ◌, pos, negsuc, nat_abs, nat_le, ◌==◌}
 use Rattle.std.proofs.lemmas.Int.{ints, by_lt_z}
 use Rattle.std.proofs.lemmas.Bool.{cases_eq, and_parts}
 use Rattle.std.proofs.lemmas.Bool.Decides.{nat_tests}
@@ -16,6 +16,7 @@ use Rattle.pf_share.specs.Problem.{ShareProblem, IsShareProblem, IsCarried, IsFe
 use Rattle.pf_share.specs.Certificate.{SharesAnswer, level_at, group_at, node_level, rank_of, rank_at, is_lower, CertifiesShares, share_of, shares_of, IsBestShares}
 use Rattle.pf_share.specs.Grouped.{tabled}
 use Rattle.pf_share.proofs.Counting.{length_tabled, at_tabled, sum_times, sum_nothing, sum_side, side_less, side_times, find_less, side_across}
+use Rattle.pf_share.proofs.ReadOff.{lower_not, lower_told, node_told, rank_none, rank_some}
 
 -- a unit in which all levels are whole
 
@@ -73,21 +74,15 @@ at_factored f (arc ∷ arcs) (x ∷ xs) (suc i) full low = at_factored f arcs xs
 
 -- groups and their order
 
-pub rank_zero : (count g : ℕ) → g ≡ 0 → rank_of count g ≡ suc count
-rank_zero count g e = rw e refl
-
-pub rank_group : (count g : ℕ) → g ≢ 0 → rank_of count g ≡ g
-rank_group count g h = let e : eqb g 0 ≡ false = grind (arith, nat_tests) in rw e refl
-
 pub same_rank : (count g k : ℕ) → g ≤ count → k ≤ count → rank_of count g ≡ rank_of count k → g ≡ k
 same_rank count g k low low' e = elim (cases_eq g 0) [
   | inl none ↦ elim (cases_eq k 0) [
     | inl none' ↦ none ∙ sym none'
-    | inr some' ↦ absurd (let a = rank_zero count g none in let b = rank_group count k some' in omega (arith, a, b, e, low'))
+    | inr some' ↦ absurd (let a = rank_none count g none in let b = rank_some count k some' in omega (arith, a, b, e, low'))
   ]
   | inr some ↦ elim (cases_eq k 0) [
-    | inl none' ↦ absurd (let a = rank_group count g some in let b = rank_zero count k none' in omega (arith, a, b, e, low))
-    | inr some' ↦ (let a = rank_group count g some in let b = rank_group count k some' in omega (arith, a, b, e))
+    | inl none' ↦ absurd (let a = rank_some count g some in let b = rank_none count k none' in omega (arith, a, b, e, low))
+    | inr some' ↦ (let a = rank_some count g some in let b = rank_some count k some' in omega (arith, a, b, e))
   ]
 ]
 
@@ -98,13 +93,6 @@ abs_of (negsuc g) n h l = absurd (omega (arith, ints, h))
 abs_some : (g : ℤ) → pos 1 ≤ℤ g → nat_abs g ≢ 0
 abs_some (pos g) h = λ e. absurd (omega (arith, ints, h, e))
 abs_some (negsuc g) h = absurd (omega (arith, ints, h))
-
--- tests of ranks
-pub lower_told : (a b : ℕ) → nat_lt a b ≡ true → a < b
-lower_told a b h = grind (arith, nat_tests)
-
-pub lower_not : (a b : ℕ) → not (nat_lt a b) ≡ true → b ≤ a
-lower_not a b h = grind (arith, nat_tests)
 
 within_told : (a b : ℕ) → nat_le a b ≡ true → a ≤ b
 within_told a b h = grind (arith, nat_tests)
@@ -117,9 +105,6 @@ within_is a b h = grind (arith, nat_tests)
 
 above_is : (a b : ℕ) → b < a → nat_le a b ≡ false
 above_is a b h = grind (arith, nat_tests)
-
-pub node_told : (n v : ℕ) → (n == v) ≡ true → n ≡ v
-node_told n v h = grind (arith, nat_tests)
 
 -- shares of levels
 pub share_is : (levels : List Fraction) (weights groups : List ℤ) (v : ℕ) → length groups ≡ length weights → v < length weights →
@@ -457,9 +442,9 @@ module _ (p : ShareProblem) (a : SharesAnswer) (problem : IsShareProblem p) (c :
 
   sink_out : (i : ℕ) → i < p.nodes → group_at a.groups i ≢ 0 → has (lower_side (rank i)) p.sink ≡ false
   sink_out i low some =
-      let first = rank_group (length a.levels) (group_at a.groups i) some in
+      let first = rank_some (length a.levels) (group_at a.groups i) some in
       let few = group_low i low in
-      let last = rank_zero (length a.levels) (group_at a.groups p.sink) (ap nat_abs c.groups.sink) in
+      let last = rank_none (length a.levels) (group_at a.groups p.sink) (ap nat_abs c.groups.sink) in
       in_side (rank i) p.sink problem.sink ∙ above_is (rank p.sink) (rank i) (omega (arith, first, few, last))
 
   -- whoever gains is a source
@@ -493,8 +478,8 @@ module _ (p : ShareProblem) (a : SharesAnswer) (problem : IsShareProblem p) (c :
             let source = has_weight j (at_arc numbers j) u there (omega (arith, ints, above, less)) (number_is u numbers j unit there) in
             let group = source_group j there source in
             let within = side_held (rank i) j there found.held in
-            let a_rank = rank_group (length a.levels) (group_at a.groups j) group in
-            let b_rank = rank_group (length a.levels) (group_at a.groups i) some in
+            let a_rank = rank_some (length a.levels) (group_at a.groups j) group in
+            let b_rank = rank_some (length a.levels) (group_at a.groups i) some in
             let order = levels_order (group_at a.groups j) (group_at a.groups i) group (omega (arith, within, a_rank, b_rank)) (group_low i low) in
             record {
               node = j;

@@ -1,18 +1,18 @@
 -- A text of the kind `share` that is accepted gives a network within its limits.
-use Rattle.std.proofs.Common.{◌≡◌, ◌≢◌, ℕ, zero, suc, ◌+◌, ◌<◌, ◌≤◌, Bool, true, false, not, List, [], ◌∷◌, ◌++◌, length, get_or, set, Option, Some, None, Result, Ok, refl, sym, ap, subst, ◌∙◌, arith, length-append}
+use Rattle.std.proofs.Common.{◌≡◌, ◌≢◌, ℕ, zero, suc, ◌+◌, ◌<◌, ◌≤◌, true, false, not, List, [], ◌∷◌, ◌++◌, length, get_or, set, Option, Some, None, Ok, refl, sym, ap, subst, ◌∙◌, arith, length-append}
 use Rattle.std.specs.Prelude.{ℤ, pos, nat_abs, ◌≤ℤ◌, is_some, All, replicate, slice_set, slice_index_or, ◌==◌}
 use Rattle.std.proofs.lemmas.Int.{ints}
 use Rattle.std.proofs.lemmas.Bool.{eqb-false, false≢true}
 use Rattle.std.proofs.lemmas.Bool.Decides.{nat_tests}
 use Rattle.std.proofs.lemmas.List.{length-set, length-replicate}
 use Rattle.std.proofs.lemmas.List.Elements.{All-nil, All-cons, All-append}
-use Rattle.pf_text.specs.declared.RuleKind.{RuleKind}
 use Rattle.pf_text.specs.Lines.{Line}
-use Rattle.pf_text.specs.Kinds.{Fits, State, Accepted, problem_of_lines, problem_of, broken_if}
-use Rattle.pf_text.proofs.KindsLaw.{Keeps, IsInvariant, lines_claims, problem_claims}
+use Rattle.pf_text.specs.Kinds.{Fits, State, Accepted, problem_of_lines, problem_of}
+use Rattle.pf_text.proofs.KindsLaw.{Keeps, IsInvariant, lines_claims, problem_claims, broken_ok}
 use Rattle.pf_share.specs.Problem.{ShareProblem, IsBoundedSharing, sharing_of}
 use Rattle.pf_share.specs.Text.{Given, share, share_header, node_count, arc_count, node_index, is_sink, sink_form, weight_form, arc_form, end_by}
-use Rattle.pf_share.proofs.CheckLemmas.{at_numbers, length_numbers}
+use Rattle.pf_share.proofs.CheckLemmas.{length_numbers}
+use Rattle.pf_model.proofs.Facts.{number_at}
 
 -- ---- what was given
 
@@ -35,10 +35,6 @@ record IsGoodState (state : State Given) : Type 0 where
   pub few : state.counted_lines ≤ arc_count state.header_numbers
 
 -- ---- small facts
-
-broken_ok : {X : Type 0} (test : Bool) (rule : RuleKind) (next : Result X RuleKind) (x : X) → broken_if test rule next ≡ Ok x → (test ≡ false) × (next ≡ Ok x)
-broken_ok true rule next x e = absurd cc
-broken_ok false rule next x e = (refl, e)
 
 index_below : (v : ℤ) (n : ℕ) → pos 1 ≤ℤ v → v ≤ℤ pos n → node_index v < n
 index_below v n low high = omega (arith, ints, low, high)
@@ -232,18 +228,18 @@ bounded state t good is =
         sink = omega (arith, first, full);
         weights_full = weights;
         capacities_full = omega (arith, many, count, capacity_count);
-        weight_low = λ v low. (let e = at_numbers given.weights v low in omega (arith, ints, e));
-        sink_weight = at_numbers given.weights t (omega (arith, first, full)) ∙ ap pos here.1;
+        weight_low = λ v low. (let e = number_at given.weights v low in omega (arith, ints, e));
+        sink_weight = number_at given.weights t (omega (arith, first, full)) ∙ ap pos here.1;
         tails = λ i low. (let inside = (good.ends i (0, 0) low).0 in omega (arith, inside, full));
         heads = λ i low. (let inside = (good.ends i (0, 0) low).1 in omega (arith, inside, full));
-        capacity_low = λ i low. (let e = at_numbers given.capacities i (omega (arith, low, count, capacity_count)) in omega (arith, ints, e));
+        capacity_low = λ i low. (let e = number_at given.capacities i (omega (arith, low, count, capacity_count)) in omega (arith, ints, e));
       };
       few_nodes = omega (arith, nodes, full);
       few_arcs = omega (arith, arcs, few, count);
-      weight_high = λ v low. (let e = at_numbers given.weights v low in let light = good.light v in omega (arith, ints, e, light));
+      weight_high = λ v low. (let e = number_at given.weights v low in let light = good.light v in omega (arith, ints, e, light));
       capacity_high = λ i low.
           let there : i < length given.capacities = omega (arith, low, count, capacity_count) in
-          let e = at_numbers given.capacities i there in
+          let e = number_at given.capacities i there in
           let small = good.capacities i 0 there in
           omega (arith, ints, e, small);
     }

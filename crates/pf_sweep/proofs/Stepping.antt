@@ -1,5 +1,5 @@
 -- A flow at one parameter, filled and cut for a greater one: a preflow, for which the labels are valid still.
-use Rattle.std.proofs.Common.{◌≡◌, ◌≢◌, ℕ, ◌<◌, ◌≤◌, List, length, get_or, map, refl, Bool, true, false, ◌&&◌, eqb, arith, ap, sym, ◌∙◌, inl, inr}
+use Rattle.std.proofs.Common.{◌≡◌, ◌≢◌, ℕ, ◌<◌, ◌≤◌, List, length, get_or, refl, Bool, true, false, ◌&&◌, eqb, arith, ap, sym, ◌∙◌, inl, inr}
 use Rattle.std.specs.Prelude.{ℤ, ◌+ℤ◌, ◌*ℤ◌, ◌≤ℤ◌, ◌<ℤ◌, pos, nat_lt, ◌==◌}
 use Rattle.std.proofs.lemmas.Int.{ints}
 use Rattle.std.proofs.lemmas.Bool.{cases_Bool, cases_eq, eqb-true, eq-eqb, ne_eqb, and_parts}
@@ -14,11 +14,12 @@ use Rattle.pf_model.specs.Digraph.{Digraph, network_of}
 use Rattle.pf_model.specs.Network.{Network, capacity_at, ends_of}
 use Rattle.pf_model.proofs.Integers.{mul_most, mul_most_negative}
 use Rattle.pf_model.proofs.Sums.{sum_where_most}
-use Rattle.pf_model.proofs.Affine.{Rises, rises, no_arc, arc_at}
+use Rattle.pf_model.proofs.Affine.{Rises, rises, no_arc, arc_at, ends_here}
 use Rattle.pf_carry.specs.Carry.{least_of}
 use Rattle.pf_net.specs.Limits.{IsBuilt, digraph_of}
 use Rattle.pf_sweep.specs.Parameters.{of_units}
 use Rattle.pf_sweep.specs.Moving.{caps_of, is_filled, fitted}
+use Rattle.pf_model.proofs.Facts.{not_lower}
 
 -- the tail and the head of arc i
 abbrev pub tail_of : Digraph → ℕ → ℕ
@@ -61,21 +62,18 @@ arc_rises s t arc u p p' r k off = elim r [
 pub cap_here : (net : Network) (u p : ℤ) (i : ℕ) → i < length net.arcs → at_arc (caps_of net u p) i ≡ capacity_at (of_units u p) (arc_at net i)
 cap_here net u p i low = get_or-map (capacity_at (of_units u p)) net.arcs i no_arc (pos 0) low
 
-pub ends_there : (net : Network) (i : ℕ) → i < length net.arcs → get_or (map ends_of net.arcs) i (0, 0) ≡ ends_of (arc_at net i)
-ends_there net i low = get_or-map ends_of net.arcs i no_arc (0, 0) low
-
 pub caps_later : (net : Network) (u p p' : ℤ) → IsBuilt net → net.sense ≡ Rising → p ≤ℤ p' → IsLater (digraph_of net) net.source net.sink (caps_of net u p) (caps_of net u p')
 caps_later net u p p' b rising order = record {
   falls = λ i low off.
       let here : i < length net.arcs = omega (arith, low, length-map net.arcs ends_of) in
       let r = rises net.source net.sink (arc_at net i) (rw rising at (b.monotone.each i no_arc here).slope) in
-      let e = ends_there net i here in
+      let e = ends_here net i here in
       let apart : (arc_at net i).tail ≢ net.source = λ h. off (ap (λ (arc : ℕ × ℕ). arc.0) e ∙ h) in
       rw (cap_here net u p i here, cap_here net u p' i here) (arc_falls net.source net.sink (arc_at net i) u p p' r order apart);
   rise = λ i low off.
       let here : i < length net.arcs = omega (arith, low, length-map net.arcs ends_of) in
       let r = rises net.source net.sink (arc_at net i) (rw rising at (b.monotone.each i no_arc here).slope) in
-      let e = ends_there net i here in
+      let e = ends_here net i here in
       let apart : (arc_at net i).head ≢ net.sink = λ h. off (ap (λ (arc : ℕ × ℕ). arc.1) e ∙ h) in
       rw (cap_here net u p i here, cap_here net u p' i here) (arc_rises net.source net.sink (arc_at net i) u p p' r order apart);
 }
@@ -143,9 +141,6 @@ and_second false y h k = cc
 lt_told : (x y : ℕ) → nat_lt x y ≡ true → x < y
 lt_told x y h = grind (arith, nat_tests)
 
-le_told : (x y : ℕ) → nat_lt x y ≡ false → y ≤ x
-le_told x y h = grind (arith, nat_tests)
-
 pub not_filled : (g : Digraph) (labels : List ℕ) (s i : ℕ) → tail_of g i ≢ s → is_filled g labels s i ≡ false
 not_filled g labels s i off = and_first (eqb (tail_of g i) s) (nat_lt (get_or labels (head_of g i) 0) g.nodes) (ne_eqb (tail_of g i) s off)
 
@@ -162,7 +157,7 @@ filled_is g labels s i h =
 -- the head of each other arc out of the source has a high one
 high_label : (g : Digraph) (labels : List ℕ) (s i : ℕ) → is_filled g labels s i ≡ false → tail_of g i ≡ s → g.nodes ≤ get_or labels (head_of g i) 0
 high_label g labels s i h from =
-    le_told (get_or labels (head_of g i) 0) g.nodes
+    not_lower (get_or labels (head_of g i) 0) g.nodes
     (and_second (eqb (tail_of g i) s) (nat_lt (get_or labels (head_of g i) 0) g.nodes) (eq-eqb (tail_of g i) s from) h)
 
 -- all numbers so

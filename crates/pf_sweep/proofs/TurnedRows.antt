@@ -2,7 +2,7 @@
 use Rattle.std.proofs.Common.{◌≡◌, ℕ, ◌+◌, ◌-◌, ◌<◌, ◌≤◌, List, length, get_or, map, arith, ap, sym, ◌∙◌, subst}
 use Rattle.std.specs.Prelude.{ℤ, int_lt, ◌+ℤ◌, ◌-ℤ◌, ◌*ℤ◌, ◌≤ℤ◌, neg_ℤ, pos, nat_abs, reverse}
 use Rattle.std.proofs.lemmas.Int.{ints}
-use Rattle.std.proofs.lemmas.List.{length-map, get_or-map, length-reverse, get_or-reverse}
+use Rattle.std.proofs.lemmas.List.{length-map, get_or-map, length-reverse}
 use Rattle.pf_model.specs.declared.Sense.TheVariants.{Rising, Falling}
 use Rattle.pf_model.specs.Fraction.{Fraction, IsParameter, IsLowest, IsBoundedFraction, lowest}
 use Rattle.pf_model.specs.Cut.{FlowNetwork, IsLeastValue, IsLeastSize}
@@ -16,6 +16,7 @@ use Rattle.pf_sweep.specs.Parameters.{of_units, most_unit, IsNearEnd, HasNearEnd
 use Rattle.pf_sweep.specs.Rows.{IsRightRow, AreRows, turned_row}
 use Rattle.pf_sweep.specs.Laws.{RowOfMirror, RowsOfMirror}
 use Rattle.pf_sweep.proofs.Units.{some_product}
+use Rattle.pf_model.proofs.Turned.{place_turned}
 
 same_size : (x : ℤ) → nat_abs (neg_ℤ x) ≡ nat_abs x
 same_size x = omega (arith, ints)
@@ -90,10 +91,6 @@ parameter_turned net k i j some e =
     let q : unit_of (mirror net) k ≡ unit_of net k = ap (λ n. n *ℤ pos k) (mul_comm net.high.q net.low.q) in
     let x : Fraction = of_units (unit_of net k) (step_units net k i) in
     ap lowest (fraction_of_parts (step_units (mirror net) k j) (neg_ℤ (step_units net k i)) (unit_of (mirror net) k) (unit_of net k) p q) ∙ lowest_turned x some
-
-place_turned : {X : Type 0} (xs : List X) (d : X) (i j : ℕ) → i + j + 1 ≡ length xs → get_or (reverse xs) i d ≡ get_or xs j d
-place_turned xs d i j e =
-    get_or-reverse xs i d (omega (arith, e)) ∙ ap (λ k. get_or xs k d) (let f : length xs - 1 - i ≡ j = omega (arith, e) in f)
 
 some_unit : (net : Network) (k : ℕ) → IsMonotone net → 1 ≤ k → pos 1 ≤ℤ unit_of net k
 some_unit net k m some = some_product net.low.q net.high.q (pos k) m.low m.high (omega (arith, ints, some))

@@ -10,7 +10,7 @@ use Rattle.pf_text.specs.declared.RuleKind.{RuleKind}
 use Rattle.pf_text.specs.declared.TextBad.{TextBad}
 use Rattle.pf_text.specs.Lines.{Line, lines_from}
 use Rattle.pf_text.specs.Numbers.{whole_of}
-use Rattle.pf_text.specs.Kinds.{FieldPattern, number, word, Fits, Form, Kind, State, Accepted, Match, with_number, numbers_by, are_in_range, first_of, match_of, rule_at, and_then, refuse_if, state_of_header, state_of_match, header, step, is_end, end_line, body, problem_of_lines, problem_of}
+use Rattle.pf_text.specs.Kinds.{FieldPattern, number, word, Fits, Form, Kind, State, Accepted, Match, with_number, numbers_by, are_in_range, first_of, match_of, rule_at, and_then, refuse_if, state_of_header, state_of_match, header, step, is_end, end_line, body, problem_of_lines, problem_of, broken_if}
 
 -- ---- the numbers of a line
 
@@ -74,7 +74,7 @@ rule_ok : {X : Type 0} (n : ℕ) (r : Result X RuleKind) (x : X) → rule_at n r
 rule_ok n (Ok y) x e = cc
 rule_ok n (Err rule) x e = absurd cc
 
-not_false : (b : Bool) → not b ≡ false → b ≡ true
+pub not_false : (b : Bool) → not b ≡ false → b ≡ true
 not_false true e = refl
 not_false false e = absurd cc
 
@@ -186,3 +186,7 @@ pub problem_claims : {G P : Type 0} (kind : Kind G P) (Holds : State G → Type 
     → IsInvariant kind Holds Claim → problem_of kind text ≡ Ok read → Claim read.problem
 unfolding problem_of
 problem_claims kind Holds Claim text read law e = lines_claims kind Holds Claim (lines_from 1 text) read law e
+
+pub broken_ok : {X : Type 0} (test : Bool) (rule : RuleKind) (next : Result X RuleKind) (x : X) → broken_if test rule next ≡ Ok x → (test ≡ false) × (next ≡ Ok x)
+broken_ok true rule next x e = absurd cc
+broken_ok false rule next x e = (refl, e)

@@ -10,10 +10,10 @@ use Rattle.pf_trees.specs.Slots.{at, edge_at, IsPlaced}
 use Rattle.pf_trees.specs.State.{IsClosed}
 use Rattle.pf_trees.specs.Search.{HasWays, IsMarking, HasPlaces, IsStarted}
 
-put_same : (xs : List ℕ) (i y : ℕ) → i < length xs → at (set xs i y) i ≡ y
+pub put_same : (xs : List ℕ) (i y : ℕ) → i < length xs → at (set xs i y) i ≡ y
 put_same xs i y h = rw get_or-set_same refl
 
-put_other : (xs : List ℕ) (i k y : ℕ) → k ≢ i → at (set xs i y) k ≡ at xs k
+pub put_other : (xs : List ℕ) (i k y : ℕ) → k ≢ i → at (set xs i y) k ≡ at xs k
 put_other xs i k y ne = rw get_or-set_other refl
 
 unlike : (mark : List Bool) (x y : ℕ) → has mark x ≡ true → has mark y ≡ false → x ≢ y

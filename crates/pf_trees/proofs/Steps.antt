@@ -3,7 +3,7 @@ use Rattle.std.proofs.Common.{◌≡◌, ◌≢◌, ℕ, zero, suc, ◌+◌, ◌
 use Rattle.std.specs.Prelude.{◌==◌, ◌⊎◌}
 use Rattle.std.proofs.lemmas.Bool.{cases_eq, cases_lt, eq-eqb, ne_eqb, both_ways, lt-ltb, le-ltb, cond-true, cond-false}
 use Rattle.std.proofs.lemmas.Bool.Decides.{nat_tests}
-use Rattle.std.proofs.lemmas.List.{length-set, get_or-set_same, get_or-set_other}
+use Rattle.std.proofs.lemmas.List.{length-set}
 use Rattle.std.proofs.lemmas.Nat.{div-add-mod', mul-le}
 use Rattle.pf_model.specs.Digraph.{IsDigraph}
 use Rattle.pf_trees.specs.Trees.{with_ends}
@@ -13,13 +13,7 @@ use Rattle.pf_trees.specs.State.{IsBasis, IsState}
 use Rattle.pf_trees.specs.Search.{IsChain, KeepsOthers, IsLast}
 use Rattle.pf_trees.proofs.Bases.{exchange_keeps, crosses_same, sum, sum_crosses}
 use Rattle.pf_trees.proofs.Filled.{block_high, block_of}
-
--- reading a list after one write
-at_same : (xs : List ℕ) (i y : ℕ) → i < length xs → at (set xs i y) i ≡ y
-at_same xs i y h = rw get_or-set_same refl
-
-at_other : (xs : List ℕ) (i k y : ℕ) → k ≢ i → at (set xs i y) k ≡ at xs k
-at_other xs i k y ne = rw get_or-set_other refl
+use Rattle.pf_trees.proofs.Marking.{put_other, put_same}
 
 -- a slot after the edge x took t and left old
 pub record IsTaken (m t x old : ℕ) (slot slot' : List ℕ) : Type 0 where
@@ -33,9 +27,9 @@ taken_slots m t x old slot h ne =
     let full : length (set (set slot t x) old m) ≡ length slot = length-set (set slot t x) old m ∙ length-set slot t x in
     record {
       full = full;
-      here = at_other (set slot t x) old t m ne ∙ at_same slot t x h;
-      left = λ l. at_same (set slot t x) old m (omega (arith, l, length-set slot t x));
-      others = λ s a b. at_other (set slot t x) old s m b ∙ at_other slot t s x a;
+      here = put_other (set slot t x) old t m ne ∙ put_same slot t x h;
+      left = λ l. put_same (set slot t x) old m (omega (arith, l, length-set slot t x));
+      others = λ s a b. put_other (set slot t x) old s m b ∙ put_other slot t s x a;
     }
 
 pub other_slot : (m total t x : ℕ) (slot place : List ℕ) → IsPlaced m total slot place → t < total → at slot t ≡ m → x < m → t ≢ at place x
@@ -50,7 +44,7 @@ pub placed_step : (m total t x : ℕ) (slot slot' place : List ℕ) → IsPlaced
 placed_step m total t x slot slot' place p ht free hx k =
     let sf = p.slots_full in
     let pf = p.places_full in
-    let new : at (set place x t) x ≡ t = at_same place x t (omega arith) in
+    let new : at (set place x t) x ≡ t = put_same place x t (omega arith) in
     let here = k.here in
     record {
       slots_full = k.full ∙ p.slots_full;
@@ -64,7 +58,7 @@ placed_step m total t x slot slot' place p ht free hx k =
       ];
       places_most = λ y h. elim (cases_eq y x) [
         | inl e ↦ rw (e, new) (omega arith)
-        | inr ne ↦ rw (at_other place x y t ne) (p.places_most y h)
+        | inr ne ↦ rw (put_other place x y t ne) (p.places_most y h)
       ];
       back = λ s h l. elim (cases_eq s t) [
         | inl e ↦ rw (e, here) new
@@ -74,13 +68,13 @@ placed_step m total t x slot slot' place p ht free hx k =
               let e = k.others s ne nf in
               let b = p.back s h (omega (arith, e)) in
               let apart : at slot s ≢ x = λ same. nf (sym b ∙ ap (at place) same) in
-              rw (e, at_other place x (at slot s) t apart) b
+              rw (e, put_other place x (at slot s) t apart) b
         ]
       ];
       forth = λ y h l. elim (cases_eq y x) [
         | inl e ↦ rw (e, new) here
         | inr ne ↦
-            let e = at_other place x y t ne in
+            let e = put_other place x y t ne in
             let low : at place y < total = omega (arith, e) in
             let f = p.forth y h low in
             let not_t : at place y ≢ t = λ same. (let g = ap (at slot) same in absurd (omega (arith, f, g))) in
@@ -226,14 +220,14 @@ chain_step n ends cut cut' place total chain k len i t g ch la ke held =
       ];
       room = ch.room;
       edges = λ j a b. ch.edges j (omega arith) b;
-      held = λ j a b. rw (at_other place (at chain i) (at chain j) t (other j (omega arith) (omega arith))) (ch.held j (omega arith) b);
-      crossing = λ j a b. rw (at_other place (at chain i) (at chain j) t (other j (omega arith) (omega arith)))
+      held = λ j a b. rw (put_other place (at chain i) (at chain j) t (other j (omega arith) (omega arith))) (ch.held j (omega arith) b);
+      crossing = λ j a b. rw (put_other place (at chain i) (at chain j) t (other j (omega arith) (omega arith)))
           (ke.kept (at place (at chain j)) (edge_at ends (at chain (j + 1))) (g.tails (at chain (j + 1)) (ch.edges (j + 1) (omega arith) b))
           (g.heads (at chain (j + 1)) (ch.edges (j + 1) (omega arith) b)) (la.later (j + 1) (omega arith) b)
           ∙ ch.crossing j (omega arith) b);
       last = λ j e. elim (cases_eq j i) [
         | inl same ↦ absurd (let l = ch.last j e in let q = ap (λ y. at place (at chain y)) same in omega (arith, l, q, held))
-        | inr ne ↦ rw (at_other place (at chain i) (at chain j) t (other j (omega arith) (omega arith))) (ch.last j e)
+        | inr ne ↦ rw (put_other place (at chain i) (at chain j) t (other j (omega arith) (omega arith))) (ch.last j e)
       ];
     }
 

@@ -1,20 +1,14 @@
--- The chain as it is written.
-use Rattle.std.proofs.Common.{◌≡◌, ◌≢◌, ℕ, ◌+◌, ◌<◌, ◌≤◌, List, length, set, refl, Bool, true, arith, ap, ◌∙◌, inl, inr}
+-- The chain as it is put_same.
+use Rattle.std.proofs.Common.{◌≡◌, ℕ, ◌+◌, ◌<◌, ◌≤◌, List, length, set, Bool, true, arith, ap, ◌∙◌, inl, inr}
 use Rattle.std.proofs.lemmas.Bool.{cases_eq}
-use Rattle.std.proofs.lemmas.List.{length-set, get_or-set_same, get_or-set_other}
+use Rattle.std.proofs.lemmas.List.{length-set}
 use Rattle.pf_model.specs.Cut.{has}
 use Rattle.pf_trees.specs.Sides.{separates}
 use Rattle.pf_trees.specs.Slots.{at, edge_at}
 use Rattle.pf_trees.specs.Search.{HasWays, IsChain}
-use Rattle.pf_trees.proofs.Marking.{marked_low}
+use Rattle.pf_trees.proofs.Marking.{marked_low, put_other, put_same}
 
-written : (xs : List ℕ) (i y : ℕ) → i < length xs → at (set xs i y) i ≡ y
-written xs i y h = rw get_or-set_same refl
-
-beside : (xs : List ℕ) (i k y : ℕ) → k ≢ i → at (set xs i y) k ≡ at xs k
-beside xs i k y ne = rw get_or-set_other refl
-
--- the first len places of the chain are written, and y is the last of them
+-- the first len places of the chain are put_same, and y is the last of them
 pub record IsTracing (ends : List (ℕ × ℕ)) (cut : ℕ → ℕ → Bool) (place : List ℕ) (total : ℕ) (mark : List Bool) (level : List ℕ) (x : ℕ) (chain : List ℕ) (len y : ℕ) : Type 0 where
   pub some : 0 < len
   pub room : len + at level y ≤ at level x + 1
@@ -34,7 +28,7 @@ tracing_starts ends cut place total mark from level x chain w m e f =
     let few = w.levels x m in
     let there : 0 < length chain = omega arith in
     let low = marked_low ends mark x e m in
-    let first = written chain 0 x there in
+    let first = put_same chain 0 x there in
     record {
       some = omega arith;
       room = omega arith;
@@ -67,9 +61,9 @@ tracing_more ends cut place total mark from level x chain len y w t h e =
     let some = t.some in
     let full = t.full in
     let small = tracing_room ends cut place total mark from level x chain len y w t h in
-    let new : at (set chain len (at from y)) len ≡ at from y = written chain len (at from y) (omega arith) in
+    let new : at (set chain len (at from y)) len ≡ at from y = put_same chain len (at from y) (omega arith) in
     let low = marked_low ends mark (at from y) e b.marked in
-    let old : (i : ℕ) → i < len → at (set chain len (at from y)) i ≡ at chain i = λ i l. beside chain len i (at from y) (λ s. omega (arith, s)) in
+    let old : (i : ℕ) → i < len → at (set chain len (at from y)) i ≡ at chain i = λ i l. put_other chain len i (at from y) (λ s. omega (arith, s)) in
     record {
       some = omega arith;
       room = omega arith;

@@ -4,8 +4,9 @@ use Rattle.std.proofs.lemmas.Int.{ints}
 use Rattle.std.proofs.lemmas.Bool.{cases_eq}
 use Rattle.pf_model.specs.Cut.{at_arc}
 use Rattle.pf_frame.proofs.Balances.{raised_length}
-use Rattle.pf_closure.proofs.DropLemmas.{at_raised, beside_raised, slack_here}
+use Rattle.pf_closure.proofs.DropLemmas.{slack_here}
 use Rattle.pf_closure.proofs.dropping.write_slacks.Goals as goal
+use Rattle.pf_model.proofs.Facts.{raised_here, raised_there}
 
 pub items-preserved : goal.items-preserved
 items-preserved c =
@@ -32,11 +33,11 @@ items-preserved c =
             (slack_here p c.args.at.now c.args.routing.now c.items.i
             (at_arc c.items.sums c.items.i) (at_arc c.raise.new.sums c.items.i) c.reduced_cost-more.result _ _
             cost weight c.reduced_cost-more.ensures.value (inv.rest c.items.i (omega arith) there)
-            (at_raised c.items.sums c.raise.new.sums c.items.i _ (omega (arith, there, wide)) c.raise.ensures
+            (raised_here c.items.sums c.raise.new.sums c.items.i _ (omega (arith, there, wide)) c.raise.ensures
             ∙ ap (λ n. at_arc c.items.sums c.items.i +ℤ n) same))
-        | inr other ↦ beside_raised c.items.sums c.raise.new.sums c.items.i v _ other c.raise.ensures ∙ inv.done v (omega (arith, less, other))
+        | inr other ↦ raised_there c.items.sums c.raise.new.sums c.items.i v _ other c.raise.ensures ∙ inv.done v (omega (arith, less, other))
       ];
-      rest = λ v from low. beside_raised c.items.sums c.raise.new.sums c.items.i v _ (omega (arith, from)) c.raise.ensures ∙ inv.rest v (omega (arith, from)) low;
-      low = λ v from low. rw (beside_raised c.items.sums c.raise.new.sums c.items.i v _ (omega (arith, from)) c.raise.ensures) (inv.low v (omega (arith, from)) low);
-      high = λ v from low. rw (beside_raised c.items.sums c.raise.new.sums c.items.i v _ (omega (arith, from)) c.raise.ensures) (inv.high v (omega (arith, from)) low);
+      rest = λ v from low. raised_there c.items.sums c.raise.new.sums c.items.i v _ (omega (arith, from)) c.raise.ensures ∙ inv.rest v (omega (arith, from)) low;
+      low = λ v from low. rw (raised_there c.items.sums c.raise.new.sums c.items.i v _ (omega (arith, from)) c.raise.ensures) (inv.low v (omega (arith, from)) low);
+      high = λ v from low. rw (raised_there c.items.sums c.raise.new.sums c.items.i v _ (omega (arith, from)) c.raise.ensures) (inv.high v (omega (arith, from)) low);
     }

@@ -4,9 +4,9 @@ use Rattle.pf_model.specs.Digraph.{Digraph}
 use Rattle.pf_frame.specs.Numbers.{IsBounded}
 use Rattle.pf_forest.proofs.Bounds.{range_bounded}
 use Rattle.pf_forest.proofs.Giving.{splits_more}
-use Rattle.pf_forest.proofs.Lent.{back}
 use Rattle.pf_forest.proofs.meets.are_splits.Goals as goal
 use mir.Syntax.{w128}
+use Rattle.pf_model.proofs.Facts.{lent_back}
 
 pub is_split-requires-clause-vector : goal.is_split-requires-clause-vector
 is_split-requires-clause-vector c =
@@ -24,7 +24,7 @@ roots-preserved c =
     let kept = c.is_split.auto.sums in
     let long : length c.is_split.new.sums ≡ length c.roots.scratch.sums.items = omega (arith, old, kept) in
     let b_sums : take c.roots.scratch.sums.len (c.is_split.new.sums ++ drop (length c.is_split.new.sums) c.roots.scratch.sums.items) ≡ c.is_split.new.sums =
-    back _ _ _ (omega (arith, c.roots.scratch.sums.ok.0, long)) in
+    lent_back _ _ _ (omega (arith, c.roots.scratch.sums.ok.0, long)) in
     record {
       places = record {
         marks = c.roots.invariant.places.marks;

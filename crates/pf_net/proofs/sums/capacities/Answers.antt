@@ -1,7 +1,7 @@
 use Rattle.std.proofs.Common.{map, arith, ap, sym, ◌∙◌}
 use Rattle.pf_model.specs.Network.{capacity_at}
-use Rattle.pf_net.proofs.Fronts.{take_whole}
 use Rattle.pf_net.proofs.sums.capacities.Goals as goal
+use Rattle.pf_model.proofs.Sums.{take_whole}
 
 pub returns : goal.returns
 returns c =

@@ -1,9 +1,9 @@
 use Rattle.std.proofs.Common.{List, ℕ, length, drop, rules, arith, subst}
 use Rattle.pf_preflow.specs.Network.{flow_network}
 use Rattle.pf_preflow.specs.Raising.{AreOverGap, AreRaised}
-use Rattle.pf_preflow.proofs.Lent.{back}
 use Rattle.pf_preflow.proofs.RaisedLabels.{state_raised, over_valid}
 use Rattle.pf_preflow.proofs.labels.gap_relabel.Goals as goal
+use Rattle.pf_model.proofs.Facts.{lent_back}
 
 pub labels_over_gap-requires-clause-some : goal.labels_over_gap-requires-clause-some
 labels_over_gap-requires-clause-some g c =
@@ -20,7 +20,7 @@ returns-then-labels_over_gap-clause-state g c =
     c.requires.proper c.requires.state.valid c.requires.state.valid.full o in
     let full = c.requires.state.valid.full in
     let other = o.full in
-    let e = back c.args.room.now.distances.len c.labels_over_gap.new.other (drop (length c.labels_over_gap.new.other) c.args.room.now.distances.items)
+    let e = lent_back c.args.room.now.distances.len c.labels_over_gap.new.other (drop (length c.labels_over_gap.new.other) c.args.room.now.distances.items)
     (omega (arith, c.args.room.now.distances.ok.0, c.requires.room.distances, full, other)) in
     let P : List ℕ → Type 0 = λ d. AreRaised c.args.labels.now d c.raise_to_distances.new.labels (length c.args.labels.now) c.args.steps.now c.raise_to_distances.new.steps in
     state_raised (flow_network c.args.net) c.args.flow.now c.args.labels.now c.labels_over_gap.new.other c.raise_to_distances.new.labels c.args.room.now.excess.items

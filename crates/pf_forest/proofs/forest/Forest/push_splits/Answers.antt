@@ -3,8 +3,8 @@ use Rattle.std.specs.Prelude.{Some}
 use Rattle.pf_graph.specs.WeightedGraph.{WeightedGraph, digraph_of}
 use Rattle.pf_forest.specs.Forest.{ForestState, IsSplit, AddsSplits}
 use Rattle.pf_forest.proofs.Giving.{adds_more}
-use Rattle.pf_forest.proofs.Lent.{back}
 use Rattle.pf_forest.proofs.forest.Forest.push_splits.Goals as goal
+use Rattle.pf_model.proofs.Facts.{lent_back}
 
 pub roots-preserved : goal.roots-preserved
 roots-preserved c = record {
@@ -16,7 +16,7 @@ roots-preserved c = record {
       let old = ap length c.deref_mut.ensures.value in
       let kept = c.orient.auto.shares in
       let b : take c.in_ok-shares.shares.len (c.orient.new.shares ++ drop (length c.orient.new.shares) c.in_ok-shares.shares.items) ≡ c.orient.new.shares =
-      back _ _ _ (omega (arith, c.in_ok-shares.shares.ok.0, old, kept)) in
+      lent_back _ _ _ (omega (arith, c.in_ok-shares.shares.ok.0, old, kept)) in
       adds_more _ x _ _ c.roots.table c.push.new.self c.roots.root c.orient.new.shares (c.roots.invariant.adds x e)
       (c.in_ok-push.ensures.added ∙ ap (λ l. c.roots.table ++ l ∷ []) (c.from_vec.ensures ∙ b)) split;
 }
