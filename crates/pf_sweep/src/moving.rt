@@ -1,5 +1,5 @@
 // A flow at one parameter is made a preflow at a greater one, and then a greatest flow.
-ghost use Rattle.std.specs.Prelude.{◌≡◌, ◌+◌, ◌<◌, ◌≤◌, ◌^◌, length, get_or, ℕ, ℤ, pos, ◌≤ℤ◌, ◌<ℤ◌, slice_set};
+ghost use Rattle.std.specs.Prelude.{◌≡◌, ◌+◌, ◌<◌, ◌≤◌, ◌^◌, length, slice_index_or, ℕ, ℤ, pos, ◌≤ℤ◌, ◌<ℤ◌, slice_set};
 ghost use Rattle.pf_model.specs.Fraction.{IsBoundedFraction};
 ghost use Rattle.pf_model.specs.Cut.{at_arc};
 ghost use Rattle.pf_model.specs.Flow.{IsPreflow, IsGreatest};
@@ -113,7 +113,7 @@ fn go_on<L: Ledger>(
     requires caps { IsBounded frame.now caps.now }
     requires flow { IsPreflow (network engine.old frame.now caps.now) flow.old }
     requires labels { HasValidLabels (network engine.old frame.now caps.now) flow.old engine.old.labels }
-    ensures none_fell { (v : ℕ) → get_or engine.old.labels v 0 ≤ get_or engine.new.labels v 0 }
+    ensures none_fell { (v : ℕ) → slice_index_or engine.old.labels v 0 ≤ slice_index_or engine.new.labels v 0 }
     ensures at_least { changed engine.old.labels engine.new.labels + steps.old ≤ steps.new }
     ensures at_most { steps.new ≤ steps.old + rises engine.old.labels engine.new.labels }
     ensures greatest { IsGreatest (network engine.new frame.now caps.now) flow.new }
@@ -144,7 +144,7 @@ pub fn move_on<L: Ledger>(
     ensures greatest { IsGreatest (network_at net.now (fraction_of at.now)) flow.new }
     ensures valid { HasValidLabels (network_at net.now (fraction_of at.now)) flow.new engine.new.labels }
     ensures low { AreLow net.now.nodes engine.new.labels }
-    ensures none_fell { (v : ℕ) → get_or engine.old.labels v 0 ≤ get_or engine.new.labels v 0 }
+    ensures none_fell { (v : ℕ) → slice_index_or engine.old.labels v 0 ≤ slice_index_or engine.new.labels v 0 }
     ensures at_least { changed engine.old.labels engine.new.labels + steps.old ≤ steps.new }
     ensures at_most { steps.new ≤ steps.old + rises engine.old.labels engine.new.labels }
 {

@@ -1,5 +1,5 @@
 // A sweep through rising parameters, and its rows.
-ghost use Rattle.std.specs.Prelude.{◌≡◌, ◌↔◌, IfSome, ◌+◌, ◌<◌, ◌≤◌, ◌^◌, length, map, true, cond, ℤ, pos, ◌≤ℤ◌, ◌<ℤ◌, ◌*ℤ◌, IfOk, Err};
+ghost use Rattle.std.specs.Prelude.{◌≡◌, ◌↔◌, IfSome, ◌+◌, ◌<◌, ◌≤◌, ◌^◌, length, map, true, if◌then◌else◌, ℤ, pos, ◌≤ℤ◌, ◌<ℤ◌, ◌*ℤ◌, IfOk, Err};
 ghost use Rattle.pf_model.specs.declared.Sense.TheVariants.{Rising};
 ghost use Rattle.pf_model.specs.Fraction.{IsAtMost, IsEqual, IsBoundedFraction, lowest};
 ghost use Rattle.pf_model.specs.Line.{IsBoundedLine, value_at};
@@ -166,7 +166,7 @@ fn start_of(lo: &Rat, unit: i128) -> Parameter
 // One more, where the node is in the side.
 fn count_node(inside: bool, count: u32) -> u32
     requires { count < 8192 }
-    ensures { result ≡ count + cond inside 1 0 }
+    ensures { result ≡ count + (if inside then 1 else 0) }
 {
     if inside { count + 1 } else { count }
 }
