@@ -131,6 +131,13 @@ impl Curve {
         self.cuts.get()[i].get()
     }
 
+    /// The flows, a row for each point, from 0. Each is in units of `1/q` of its point `p/q`, indexed by arc.
+    pub fn flows(&self) -> &FlowTable
+        ensures { result.now ≡ self.now.flows }
+    {
+        &self.flows
+    }
+
     /// The flow at point `i`, from 0.
     pub fn flow(&self, i: usize) -> &[i128]
         requires { i ≤ length self.now.cuts }

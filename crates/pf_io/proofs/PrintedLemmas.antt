@@ -15,6 +15,10 @@ pub record HasPrinted {K : Type 0} {S : Ghosts K} (old new : Printer K S) (whole
 pub printed_begin : {K : Type 0} {S : Ghosts K} (p : Printer K S) (whole : List ℕ) → is_spent p ≡ false → HasPrinted p p whole whole
 printed_begin {K} {S} p whole usable = record { printed = []; split = refl; adds = adds_nothing p usable }
 
+-- what is left may be written in another way
+pub printed_begin_by : {K : Type 0} {S : Ghosts K} (p : Printer K S) (whole left : List ℕ) → is_spent p ≡ false → whole ≡ left → HasPrinted p p whole left
+printed_begin_by {K} {S} p whole left usable e = record { printed = []; split = e; adds = adds_nothing p usable }
+
 -- a piece more
 pub printed_more : {K : Type 0} {S : Ghosts K} {old mid new : Printer K S} {whole left piece later : List ℕ} → HasPrinted old mid whole left → left ≡ piece ++ later
     → Adds {T = Unit {0}} mid new piece (Ok tt) → HasPrinted old new whole later

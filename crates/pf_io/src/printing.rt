@@ -1,12 +1,13 @@
 // Lines of answers. Each begins with a word, and the numbers that it is known by: none, or the number of a cut, or two.
 // What follows is numbers, a fraction, a side or labels, each field with one space in front. No call takes memory.
-ghost use Rattle.std.specs.Prelude.{◌≡◌, ◌++◌, [], ◌∷◌, map, false};
+ghost use Rattle.std.specs.Prelude.{◌≡◌, ◌++◌, [], ◌∷◌, ◌≤◌, map, false};
 ghost use Rattle.std.specs.Fmt.{decimal, signed_decimal};
-ghost use Rattle.pf_text.specs.Spelling.{side_text, spaced, rest_of_line, head_text, row_line, fraction_line, side_line, label_line};
+ghost use Rattle.pf_text.specs.Spelling.{side_text, spaced, rest_of_line, head_text, row_line, table_text, fraction_line, side_line, label_line};
 ghost use Rattle.pf_io.specs.Printing.{Adds, is_spent};
 
 use crate::device::{Failed, Sink};
 use crate::printer::Printer;
+use pf_frame::FlowTable;
 use pf_rat::Rat;
 
 /// A space, and the number.
@@ -172,6 +173,23 @@ pub fn print_row<K: Sink>(
 {
     print_head(out, word, indices)?;
     print_rest(out, numbers)
+}
+
+/// Each row of a table on such a line, numbered one after the other from `first` on, as `f J F1 .. FM` and `r R X1 .. XM`.
+pub fn print_rows<K: Sink>(
+    out: &mut Printer<'_, K>,
+    word: &[u8],
+    first: usize,
+    table: &FlowTable,
+) -> Result<(), Failed>
+    requires usable { is_spent out.old ≡ false }
+    requires first { first ≤ 1 }
+    ensures { Adds out.old out.new (table_text word.now first table.now) result }
+{
+    'rows: for j in 0..table.rows() {
+        print_row(out, word, &[first + j], table.row(j))?;
+    }
+    Ok(())
 }
 
 /// A line of a fraction, and numbers after it, as `d P Q`, `x ID P Q` and `b J P Q V`.

@@ -5,9 +5,9 @@ use Rattle.std.proofs.lemmas.Int.{ints}
 use Rattle.std.proofs.Math.Seq.{drop-cons}
 use Rattle.pf_model.specs.Answer.{IsWithinSize}
 use Rattle.pf_frame.specs.Lending.{row_at}
-use Rattle.pf_text.specs.Spelling.{row_line}
+use Rattle.pf_text.specs.Spelling.{row_line, table_text}
 use Rattle.pf_lines.specs.declared.errors.AnswerBad.{AnswerBad}
-use Rattle.pf_lines.specs.Taking.{IsBetween, IsRow, IsFlowRow, rows_text}
+use Rattle.pf_lines.specs.Taking.{IsBetween, IsRow, IsFlowRow}
 use Rattle.pf_lines.proofs.ItemsTaken.{Items, Stand}
 
 -- ---- the bounds of a number
@@ -30,14 +30,14 @@ flow_of_taken width (Err bad) row = tt
 
 -- ---- rows, numbered from the first on
 
-pub next_place : (word : List ℕ) (first j : ℕ) (row : List ℤ) (rows : List (List ℤ)) → rows_text word (first + j) (row ∷ rows) ≡ row_line word ((first + j) ∷ []) row ++ rows_text word (first + (j + 1)) rows
+pub next_place : (word : List ℕ) (first j : ℕ) (row : List ℤ) (rows : List (List ℤ)) → table_text word (first + j) (row ∷ rows) ≡ row_line word ((first + j) ∷ []) row ++ table_text word (first + (j + 1)) rows
 next_place word first j row rows =
     let place : first + j + 1 ≡ first + (j + 1) = omega arith in
-    ap (λ (n : ℕ). row_line word ((first + j) ∷ []) row ++ rows_text word n rows) place
+    ap (λ (n : ℕ). row_line word ((first + j) ∷ []) row ++ table_text word n rows) place
 
 abbrev pub row_items : List ℕ → ℕ → ℕ → Items (List ℤ)
 row_items word first width = record {
-  text = λ j rows. rows_text word (first + j) rows;
+  text = λ j rows. table_text word (first + j) rows;
   item = λ j row. row_line word ((first + j) ∷ []) row;
   none = λ j. refl;
   more = λ j row rows. next_place word first j row rows;
@@ -47,17 +47,11 @@ row_items word first width = record {
 }
 
 -- the number of the first row
-pub first_place : (word : List ℕ) (first : ℕ) (rows : List (List ℤ)) (rest : List ℕ) → rows_text word first rows ++ rest ≡ rows_text word (first + 0) rows ++ rest
+pub first_place : (word : List ℕ) (first : ℕ) (rows : List (List ℤ)) (rest : List ℕ) → table_text word first rows ++ rest ≡ table_text word (first + 0) rows ++ rest
 first_place word first rows rest =
     let place : first ≡ first + 0 = omega arith in
-    ap (λ (n : ℕ). rows_text word n rows ++ rest) place
+    ap (λ (n : ℕ). table_text word n rows ++ rest) place
 
-pub rows_stand : (word : List ℕ) (first width count : ℕ) (old : List ℕ) (rows : List (List ℤ)) (rest : List ℕ) → length rows ≡ count → All (IsFlowRow width) rows → old ≡ rows_text word first rows ++ rest
+pub rows_stand : (word : List ℕ) (first width count : ℕ) (old : List ℕ) (rows : List (List ℤ)) (rest : List ℕ) → length rows ≡ count → All (IsFlowRow width) rows → old ≡ table_text word first rows ++ rest
     → Stand (row_items word first width) count old rows rest
 rows_stand word first width count old rows rest full each there = record { full = full; each = each; behind = tt; text = there ∙ first_place word first rows rest }
-
--- the row at a place, and those after it
-pub rows_text_at : (word : List ℕ) (j i : ℕ) (rows : List (List ℤ)) → i < length rows → rows_text word j (drop i rows) ≡ row_line word (j ∷ []) (row_at rows i) ++ rows_text word (j + 1) (drop (i + 1) rows)
-rows_text_at word j i rows low =
-    let next : drop i rows ≡ row_at rows i ∷ drop (i + 1) rows = rw add-one (drop-cons rows i [] low) in
-    ap (rows_text word j) next

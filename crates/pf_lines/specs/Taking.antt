@@ -1,8 +1,8 @@
 -- What a call answers that takes a piece of a text from its front.
-use Rattle.std.specs.Prelude.{◌≡◌, ℕ, ℤ, ◌≤ℤ◌, ◌≤◌, ◌+◌, ◌++◌, ◌^◌, false, List, [], ◌∷◌, length, All, Result, Ok, Err}
+use Rattle.std.specs.Prelude.{◌≡◌, ℕ, ℤ, ◌≤ℤ◌, ◌≤◌, ◌^◌, false, List, [], ◌∷◌, length, All, Result, Ok, Err}
 use Rattle.pf_model.specs.Answer.{IsFractionShape, IsWithinSize}
 use Rattle.pf_text.specs.Numbers.{is_digit}
-use Rattle.pf_text.specs.Spelling.{row_line, fraction_line}
+use Rattle.pf_text.specs.Spelling.{fraction_line}
 use Rattle.pf_lines.specs.declared.errors.AnswerBad.{AnswerBad}
 use Rattle.pf_lines.specs.declared.errors.AnswerBad.TheVariants.{NotText, NoMemory}
 use Rattle.pf_lines.specs.declared.taking.Valued.{Valued}
@@ -42,11 +42,6 @@ pub record IsRow (width : ℕ) (min max : ℤ) (numbers : List ℤ) : Type 0 whe
 pub record IsFlowRow (width : ℕ) (flow : List ℤ) : Type 0 where
   pub full : length flow ≡ width
   pub each : All (IsWithinSize (2 ^ 104)) flow
-
--- rows of numbers, each on a line with the word, and numbered one after the other from j on
-abbrev pub rows_text : List ℕ → ℕ → List (List ℤ) → List ℕ
-rows_text word j [] = []
-rows_text word j (row ∷ rows) = row_line word (j ∷ []) row ++ rows_text word (j + 1) rows
 
 -- so many labels, each from 1 to the most
 pub record AreLabels (width most : ℕ) (labels : List ℕ) : Type 0 where

@@ -3,8 +3,8 @@ ghost use Rattle.std.specs.Prelude.{◌≡◌, ◌++◌, ◌∷◌, [], ◌≤�
 ghost use Rattle.std.specs.Fmt.{decimal, signed_decimal};
 ghost use Rattle.pf_model.specs.Fraction.{Fraction, IsBoundedFraction, IsLowest};
 ghost use Rattle.pf_model.specs.Answer.{IsFractionShape, IsWithinSize};
-ghost use Rattle.pf_text.specs.Spelling.{side_text, spaced, rest_of_line, fraction_text, numbers_text, head_text, row_line, fraction_line, side_line, label_line};
-ghost use Rattle.pf_lines.specs.Taking.{Passes, Stops, Takes, IsExcused, IsRow, IsFlowRow, rows_text, AreLabels, IsValued, valued_line};
+ghost use Rattle.pf_text.specs.Spelling.{side_text, spaced, rest_of_line, fraction_text, numbers_text, head_text, row_line, table_text, fraction_line, side_line, label_line};
+ghost use Rattle.pf_lines.specs.Taking.{Passes, Stops, Takes, IsExcused, IsRow, IsFlowRow, AreLabels, IsValued, valued_line};
 ghost use Rattle.pf_lines.specs.declared.taking.Valued.{Valued};
 
 use crate::errors::AnswerBad;
@@ -197,11 +197,11 @@ pub fn take_flow_rows(
     text: &mut Exact<'_>,
 ) -> Result<FlowTable, AnswerBad>
     requires { first ≤ 1 }
-    ensures taken { IfOk result (λ flows. text.old ≡ rows_text word.now first flows ++ text.new) }
+    ensures taken { IfOk result (λ flows. text.old ≡ table_text word.now first flows ++ text.new) }
     ensures count { IfOk result (λ flows. length flows ≡ count) }
     ensures shape { IfOk result (All (IsFlowRow width)) }
     ensures found { (flows : List (List ℤ)) (rest : List ℕ) → length flows ≡ count → All (IsFlowRow width) flows
-        → text.old ≡ rows_text word.now first flows ++ rest → Takes flows rest result text.new }
+        → text.old ≡ table_text word.now first flows ++ rest → Takes flows rest result text.new }
 {
     let mut flows = FlowTable::new(alloc);
     'flows: for j in 0..count {

@@ -9,7 +9,7 @@ ghost use Rattle.pf_par.specs.Answers.{point_fields, cut_fields, point_text, seg
 
 use pf_curve::{Curve, Point};
 use pf_frame::value;
-use pf_io::{Failed, Printer, Sink, print_fraction_row, print_row, print_side_row};
+use pf_io::{Failed, Printer, Sink, print_fraction_row, print_row, print_rows, print_side_row};
 use pf_net::Net;
 use pf_rat::Rat;
 
@@ -125,11 +125,7 @@ fn print_flows<K: Sink>(out: &mut Printer<'_, K>, curve: &Curve) -> Result<(), F
     requires { is_spent out.old ≡ false }
     ensures { Adds out.old out.new (flows_text 0 curve.now.flows) result }
 {
-    let flows = curve.points().len();
-    'flows: for j in 0..flows {
-        print_row(out, b"f", &[j], curve.flow(j))?;
-    }
-    Ok(())
+    print_rows(out, b"f", 0, curve.flows())
 }
 
 // The number of cuts.

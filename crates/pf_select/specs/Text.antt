@@ -5,8 +5,7 @@ use Rattle.pf_model.specs.Fraction.{Fraction}
 use Rattle.pf_text.specs.declared.RuleKind.{RuleKind}
 use Rattle.pf_text.specs.declared.RuleKind.TheVariants.{Repeated, Missing}
 use Rattle.pf_text.specs.Kinds.{FieldPattern, number, word, Form, Kind, broken_if}
-use Rattle.pf_text.specs.Spelling.{line, row_line, fraction_line, side_line}
-use Rattle.pf_lines.specs.Taking.{rows_text}
+use Rattle.pf_text.specs.Spelling.{line, row_line, fraction_line, side_line, table_text}
 use Rattle.pf_select.specs.Problem.{SelectionProblem, worth}
 use Rattle.pf_select.specs.Certificate.{ScheduleAnswer}
 
@@ -123,7 +122,7 @@ selections_text p prices (set ∷ selections) = side_line (codes "s") (0 ∷ [])
 
 -- the charges at the prices from price j + 1 on
 abbrev pub charges_text : ℕ → List (List ℤ) → List ℕ
-charges_text j rows = rows_text (codes "f") (j + 1) rows
+charges_text j rows = table_text (codes "f") (j + 1) rows
 
 -- the text of an answer: the number of prices, the selections with the prices between them, and the charges at each price
 unfoldable pub schedule_text : SelectionProblem → ScheduleAnswer → List ℕ

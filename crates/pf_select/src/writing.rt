@@ -10,7 +10,7 @@ use crate::catalogue::Catalogue;
 use crate::schedule::Schedule;
 use crate::worth::worth_at;
 use pf_frame::FlowTable;
-use pf_io::{Failed, Printer, Sink, print_fraction_row, print_row, print_side_row};
+use pf_io::{Failed, Printer, Sink, print_fraction_row, print_row, print_rows, print_side_row};
 use pf_rat::Rat;
 
 // The line of price `j`, with what the selection before it is worth there in units of `1/q`.
@@ -85,10 +85,7 @@ fn print_charges<K: Sink>(out: &mut Printer<'_, K>, charges: &FlowTable) -> Resu
     requires { is_spent out.old ≡ false }
     ensures { Adds out.old out.new (charges_text 0 charges.now) result }
 {
-    'prices: for j in 0..charges.rows() {
-        print_row(out, b"f", &[j + 1], charges.row(j))?;
-    }
-    Ok(())
+    print_rows(out, b"f", 1, charges)
 }
 
 /// Writes the answer to `select`: the number of prices; the first selection, and for each price what the selection before it is

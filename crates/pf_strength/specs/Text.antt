@@ -1,7 +1,6 @@
 -- The text of a strength.
 use Rattle.std.specs.Prelude.{ℕ, ◌+◌, ℤ, List, [], ◌∷◌, ◌++◌, codes}
-use Rattle.pf_text.specs.Spelling.{line, row_line, fraction_line, label_line}
-use Rattle.pf_lines.specs.Taking.{rows_text}
+use Rattle.pf_text.specs.Spelling.{line, row_line, fraction_line, label_line, table_text}
 use Rattle.pf_graph.specs.Labels.{parts}
 use Rattle.pf_strength.specs.Strength.{StrengthAnswer}
 
@@ -11,7 +10,7 @@ partition_text labels = row_line (codes "k") (parts labels ∷ []) [] ++ label_l
 
 -- the splits, from that of the root r on; texts number the roots from 1
 abbrev pub splits_text : ℕ → List (List ℤ) → List ℕ
-splits_text r rows = rows_text (codes "r") (r + 1) rows
+splits_text r rows = table_text (codes "r") (r + 1) rows
 
 -- the text of an answer: the level, the partition, the vector and the splits
 unfoldable pub strength_text : StrengthAnswer → List ℕ

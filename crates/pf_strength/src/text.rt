@@ -10,7 +10,7 @@ use crate::edge_lines::{take_edge_row, take_splits};
 use crate::partition_lines::take_counted_partition;
 use pf_frame::FlowTable;
 use pf_graph::{Graph, Partition};
-use pf_io::{Failed, Printer, Sink, print_fraction_row, print_labels, print_row};
+use pf_io::{Failed, Printer, Sink, print_fraction_row, print_labels, print_row, print_rows};
 use pf_lines::{AnswerBad, Exact, take_end, take_fraction_row, take_word};
 use pf_rat::Rat;
 use std::alloc::Global;
@@ -20,10 +20,7 @@ pub fn print_splits<K: Sink>(out: &mut Printer<'_, K>, splits: &FlowTable) -> Re
     requires { is_spent out.old ≡ false }
     ensures { Adds out.old out.new (splits_text 0 splits.now) result }
 {
-    'roots: for r in 0..splits.rows() {
-        print_row(out, b"r", &[r + 1], splits.row(r))?;
-    }
-    Ok(())
+    print_rows(out, b"r", 1, splits)
 }
 
 // The answer, of its four parts.

@@ -1,5 +1,5 @@
 -- How lines are spelled: fields with one space between them, and a line feed after each line.
-use Rattle.std.specs.Prelude.{ℕ, ℤ, Bool, if◌then◌else◌, List, [], ◌∷◌, ◌++◌, map}
+use Rattle.std.specs.Prelude.{ℕ, ℤ, Bool, if◌then◌else◌, ◌+◌, List, [], ◌∷◌, ◌++◌, map}
 use Rattle.std.specs.List.{join_with_byte}
 use Rattle.std.specs.Fmt.{decimal, signed_decimal}
 use Rattle.pf_model.specs.Fraction.{Fraction}
@@ -42,6 +42,11 @@ head_text word indices = word ++ spaced (map decimal indices)
 -- a line of numbers
 abbrev pub row_line : List ℕ → List ℕ → List ℤ → List ℕ
 row_line word indices numbers = line (head word indices ++ map signed_decimal numbers)
+
+-- rows of numbers, each on a line with the word, and numbered one after the other from j on
+abbrev pub table_text : List ℕ → ℕ → List (List ℤ) → List ℕ
+table_text word j [] = []
+table_text word j (row ∷ rows) = row_line word (j ∷ []) row ++ table_text word (j + 1) rows
 
 -- a line of a fraction, and numbers
 abbrev pub fraction_line : List ℕ → List ℕ → Fraction → List ℤ → List ℕ
