@@ -7,8 +7,8 @@ ghost use Rattle.pf_frame.specs.Numbers.{IsBounded};
 ghost use Rattle.pf_net.specs.Limits.{IsBuilt, digraph_of, with_arcs, rising, falling};
 ghost use Rattle.pf_net.specs.Refusal.{refusal_of};
 
-use crate::rules::first_refusal;
 use crate::mirrored::{mirror_arcs, negated, turned};
+use crate::rules::first_refusal;
 use crate::setting::Setting;
 use crate::sums::{capacities, line_of};
 use pf_frame::{Frame, NoMemory};

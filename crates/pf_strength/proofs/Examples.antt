@@ -8,7 +8,7 @@ use Rattle.pf_model.proofs.Facts.{below_four, below_one, below_three, below_two}
 
 pub triangle_certified : TriangleIsCertified
 triangle_certified = record {
-  below_two = omega arith;
+  two = omega arith;
   ratio = refl;
   forest = record {
     parameter = omega (arith, ints);
@@ -60,7 +60,7 @@ loose_part c = let e = c.forest.sum.total_is in omega (arith, ints, e)
 
 pub pairs_certified : PairsAreCertified
 pairs_certified = record {
-  below_two = omega arith;
+  two = omega arith;
   ratio = refl;
   forest = record {
     parameter = omega (arith, ints);
@@ -109,7 +109,7 @@ one_part c = let e = c.two in omega (arith, e)
 
 pub heavy_certified : HeavyIsCertified
 heavy_certified = record {
-  below_two = omega arith;
+  two = omega arith;
   ratio = refl;
   forest = record {
     parameter = omega (arith, ints);
