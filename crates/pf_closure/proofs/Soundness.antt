@@ -10,15 +10,11 @@ use Rattle.pf_model.specs.Flow.{sum_out, sum_in}
 use Rattle.pf_model.proofs.Integers.{mul_add}
 use Rattle.pf_model.proofs.Sums.{Passes, sum_where_most, sum_where_empty, sum_where_tight}
 use Rattle.pf_model.proofs.Balance.{excess_below, more_excess, across_is_excess, none_below_zero, inside}
-use Rattle.pf_model.proofs.Duality.{leaves_parts, enters_parts, at_zeros, enters_by, sum_zeros, zeros_full}
+use Rattle.pf_model.proofs.Duality.{leaves_parts, enters_parts, zeros, at_zeros, enters_by, sum_zeros, zeros_full}
 use Rattle.pf_closure.specs.Problem.{ClosureProblem, IsClosureProblem, IsClosure, IsLeastRatio, needing_at, needed_at, sum_of_side, cost_of, weight_of}
 use Rattle.pf_closure.specs.Certificate.{net_inflow, reduced_cost, KeepsRules, IsDropped, IsRouting, CertifiesRatio}
 use Rattle.pf_closure.proofs.ItemSums.{sum_of_none, sum_of_suc, sum_of_whole, has_not}
 use Rattle.pf_model.proofs.Facts.{not_false, not_true}
-
-abbrev zeros : List (ℕ × ℕ) → List ℤ
-zeros [] = []
-zeros (arc ∷ arcs) = pos 0 ∷ zeros arcs
 
 -- needs as arcs, with the items as nodes
 abbrev pub needs_of : ClosureProblem → FlowNetwork
