@@ -15,10 +15,10 @@ none_below : (P : ℕ → Type 0) (k : ℕ) → k < 0 → P k
 none_below P k low = absurd (omega (arith, low))
 
 -- where each vertex is charged all that it may be, nothing is dropped
-has_none : (n v : ℕ) → has (replicate n false) v ≡ true → ⊥
-has_none zero v h = cc
-has_none (suc n) zero h = cc
-has_none (suc n) (suc v) h = has_none n v h
+holds_none : (n v : ℕ) → has (replicate n false) v ≡ true → ⊥
+holds_none zero v h = cc
+holds_none (suc n) zero h = cc
+holds_none (suc n) (suc v) h = holds_none n v h
 
 has_all : (n v : ℕ) → v < n → has (replicate n true) v ≡ true
 has_all zero v low = absurd (omega (arith, low))
@@ -36,13 +36,13 @@ full_certifies g x charges parameter charges_are some tight = record {
   dropped = record {
     rules = record {
       strict = λ v low less. let e = tight v low in absurd (omega (arith, ints, e, less));
-      edge_by_first = λ i low h. absurd (has_none g.nodes _ h);
-      edge_by_second = λ i low h. absurd (has_none g.nodes _ h);
-      first_by_edge = λ i low h more. absurd (has_none (length g.ends) i h);
-      second_by_edge = λ i low h more. absurd (has_none (length g.ends) i h);
+      edge_by_first = λ i low h. absurd (holds_none g.nodes _ h);
+      edge_by_second = λ i low h. absurd (holds_none g.nodes _ h);
+      first_by_edge = λ i low h more. absurd (holds_none (length g.ends) i h);
+      second_by_edge = λ i low h more. absurd (holds_none (length g.ends) i h);
     };
-    least_vertices = λ vertices edges keeps v h. absurd (has_none g.nodes v h);
-    least_edges = λ vertices edges keeps i h. absurd (has_none (length g.ends) i h);
+    least_vertices = λ vertices edges keeps v h. absurd (holds_none g.nodes v h);
+    least_edges = λ vertices edges keeps i h. absurd (holds_none (length g.ends) i h);
   };
   full = length-replicate g.nodes true;
   rest = λ v low. rw (has_all g.nodes v low, has_none g.nodes v) refl;

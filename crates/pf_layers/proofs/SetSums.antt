@@ -16,8 +16,8 @@ union_step true false x a b c apart e = omega (arith, ints, e)
 union_step false true x a b c apart e = omega (arith, ints, e)
 union_step false false x a b c apart e = omega (arith, ints, e)
 
-none_after : (a : ℤ) → a ≡ a +ℤ pos 0
-none_after a = omega (arith, ints)
+none_added : (a : ℤ) → a ≡ a +ℤ pos 0
+none_added a = omega (arith, ints)
 
 pub rest_apart : (p q : Bool) (taken set : List Bool) → IsApart (p ∷ taken) (q ∷ set) → IsApart taken set
 rest_apart p q taken set apart = record { outside = λ v h. apart.outside (suc v) h }
@@ -25,13 +25,13 @@ rest_apart p q taken set apart = record { outside = λ v h. apart.outside (suc v
 pub cost_of_union : (costs : List ℤ) (taken set : List Bool) → IsApart taken set → cost_of costs (union taken set) ≡ cost_of costs taken +ℤ cost_of costs set
 cost_of_union [] taken set apart = refl
 cost_of_union (x ∷ costs) [] set apart = none_before (cost_of (x ∷ costs) set)
-cost_of_union (x ∷ costs) (p ∷ taken) [] apart = none_after (cost_of (x ∷ costs) (p ∷ taken))
+cost_of_union (x ∷ costs) (p ∷ taken) [] apart = none_added (cost_of (x ∷ costs) (p ∷ taken))
 cost_of_union (x ∷ costs) (p ∷ taken) (q ∷ set) apart =
     union_step p q x _ _ _ (apart.outside 0) (cost_of_union costs taken set (rest_apart p q taken set apart))
 
 pub sum_of_union : (taken set : List Bool) (xs : List ℤ) → IsApart taken set → sum_of_side (union taken set) xs ≡ sum_of_side taken xs +ℤ sum_of_side set xs
 sum_of_union [] set xs apart = none_before (sum_of_side set xs)
-sum_of_union (p ∷ taken) [] xs apart = none_after (sum_of_side (p ∷ taken) xs)
+sum_of_union (p ∷ taken) [] xs apart = none_added (sum_of_side (p ∷ taken) xs)
 sum_of_union (p ∷ taken) (q ∷ set) [] apart = refl
 sum_of_union (p ∷ taken) (q ∷ set) (x ∷ xs) apart =
     union_step p q x _ _ _ (apart.outside 0) (sum_of_union taken set xs (rest_apart p q taken set apart))
