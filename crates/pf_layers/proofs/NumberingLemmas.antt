@@ -1,6 +1,6 @@
 -- The elements before a layer, and those of it.
 use Rattle.std.proofs.Common.{◌≡◌, ℕ, zero, suc, ◌<◌, ◌≤◌, List, [], ◌∷◌, length, map, refl, Bool, true, false, ◌||◌, arith, ap, sym, ◌∙◌, inl, inr}
-use Rattle.std.specs.Prelude.{ℤ, ◌≤ℤ◌, pos, negsuc, int_lt}
+use Rattle.std.specs.Prelude.{◌<ℤ◌, ℤ, ◌≤ℤ◌, pos, negsuc, int_lt}
 use Rattle.std.specs.Ordering.{int_eq}
 use Rattle.std.proofs.lemmas.Int.{ints, by_lt_z}
 use Rattle.std.proofs.lemmas.Bool.{or_cases, or_left, or_right}
@@ -8,7 +8,12 @@ use Rattle.std.proofs.lemmas.Bool.Decides.{Decides-int_eq}
 use Rattle.pf_model.specs.Cut.{has, at_arc, union}
 use Rattle.pf_layers.specs.Layers.{before, layer, IsApart}
 use Rattle.pf_model.proofs.Unique.{same_truth}
-use Rattle.pf_ratio.proofs.MarkingLemmas.{less_told, less_true}
+
+pub less_told : (a b : ℤ) → int_lt a b ≡ true → a <ℤ b
+less_told a b e = omega (arith, ints, e)
+
+pub less_true : (a b : ℤ) → a <ℤ b → int_lt a b ≡ true
+less_true a b e = grind (arith, ints)
 
 pub less_false : (a b : ℤ) → b ≤ℤ a → int_lt a b ≡ false
 less_false a b e = grind (arith, ints)

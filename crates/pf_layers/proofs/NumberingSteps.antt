@@ -7,8 +7,7 @@ use Rattle.std.proofs.lemmas.List.{length-replicate}
 use Rattle.pf_model.specs.Cut.{has, at_arc, IsContained}
 use Rattle.pf_layers.specs.Layers.{before}
 use Rattle.pf_layers.specs.Reading.{IsNumbered, IsPut}
-use Rattle.pf_layers.proofs.NumberingLemmas.{less_false, has_map, before_length}
-use Rattle.pf_ratio.proofs.MarkingLemmas.{less_true}
+use Rattle.pf_layers.proofs.NumberingLemmas.{less_false, has_map, before_length, less_true}
 
 same_places : (xs ys : List Bool) (n : ℕ) → length xs ≡ n → length ys ≡ n → ((v : ℕ) → v < n → has xs v ≡ has ys v) → xs ≡ ys
 same_places [] [] n e f h = refl

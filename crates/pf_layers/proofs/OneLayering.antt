@@ -9,8 +9,7 @@ use Rattle.pf_model.proofs.Balance.{inside}
 use Rattle.pf_model.proofs.Lowest.{same_fraction}
 use Rattle.pf_layers.specs.Layers.{before, layer, level_at, IsApart, AreLayers}
 use Rattle.pf_layers.specs.Laws.{AreSameLayers, AreLowest}
-use Rattle.pf_layers.proofs.NumberingLemmas.{layer_length, has_map, before_more, layer_apart, before_first, same_numbers}
-use Rattle.pf_ratio.proofs.MarkingLemmas.{less_true}
+use Rattle.pf_layers.proofs.NumberingLemmas.{layer_length, has_map, before_more, layer_apart, before_first, same_numbers, less_true}
 
 -- two sets that are next where the same elements are taken
 pub record IsSameNext (x y : Fraction) (set other : List Bool) : Type 0 where

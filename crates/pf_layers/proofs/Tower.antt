@@ -9,9 +9,8 @@ use Rattle.pf_model.proofs.Exchange.{has-union, length-union}
 use Rattle.pf_model.proofs.Unique.{same_sides}
 use Rattle.pf_layers.specs.Layers.{before, layer, level_at, IsApart, AreLayers}
 use Rattle.pf_layers.specs.Reading.{IsNumbered}
-use Rattle.pf_layers.proofs.NumberingLemmas.{before_more, layer_apart, layer_length, has_map}
+use Rattle.pf_layers.proofs.NumberingLemmas.{before_more, layer_apart, layer_length, has_map, less_true}
 use Rattle.pf_dense.proofs.NewtonSteps.{all_off}
-use Rattle.pf_ratio.proofs.MarkingLemmas.{less_true}
 
 -- each set of the right length between two neighbours is the next
 pub record AreSteps (n : ℕ) (IsNext : List Bool → Fraction → List Bool → Type 0) (sets : ℕ → List Bool) (layers : List ℤ) (levels : List Fraction) : Type 0 where
