@@ -12,3 +12,4 @@ pub mod OutlineLemmas
 pub mod CutBounds
 pub mod SegmentsTaken
 pub mod CurveReadingLemmas
+pub mod OneAnswer

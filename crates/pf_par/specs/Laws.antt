@@ -8,7 +8,7 @@ use Rattle.pf_text.specs.Kinds.{Accepted, problem_of}
 use Rattle.pf_text.specs.Numbers.{billion}
 use Rattle.pf_par.specs.Text.{par}
 use Rattle.pf_par.specs.Answers.{point_text, curve_text}
-use Rattle.pf_par.specs.Right.{IsRightCurve, IsCertifiedCurve, IsRightCheck}
+use Rattle.pf_par.specs.Right.{IsRightPoint, IsRightCurve, IsCertifiedCurve, IsRightCheck}
 
 -- an end of an interval that a text gives, in lowest terms
 pub record IsTextFraction (x : Fraction) : Type 0 where
@@ -56,3 +56,13 @@ VerdictIsUnique = (net : Network) (rest a b : List ℕ) → IsRightCheck net res
 -- the verdict is `yes` for exactly the texts of right answers to `curve`
 abbrev pub CertifiedIsRight : Type 0
 CertifiedIsRight = (net : Network) (text : List ℕ) → IsMonotone net → IsCertifiedCurve net text ↔ IsRightCurve net text
+
+-- two right answers to `at` have the same parameter and the same cut
+abbrev pub PointIsUnique : Type 0
+PointIsUnique = (x : Fraction) (net : Network) (text other : List ℕ) (a : IsRightPoint x net text) (b : IsRightPoint x net other) →
+    (a.point.at ≡ b.point.at) × (a.point.side ≡ b.point.side)
+
+-- two right answers to `curve` have the same points and the same cuts
+abbrev pub CurveIsUnique : Type 0
+CurveIsUnique = (net : Network) (text other : List ℕ) (a : IsRightCurve net text) (b : IsRightCurve net other) → IsMonotone net →
+    (a.curve.points ≡ b.curve.points) × (a.curve.cuts ≡ b.curve.cuts)

@@ -1,6 +1,6 @@
 //! What holds of every text of a network, and of its answers: each law is the contract of a function that does nothing.
 
-ghost use Rattle.pf_par.specs.Laws.{AcceptedIsMonotone, AcceptedIsTextNetwork, PointFromText, CurveFromText, VerdictIsUnique, CertifiedIsRight};
+ghost use Rattle.pf_par.specs.Laws.{AcceptedIsMonotone, AcceptedIsTextNetwork, PointFromText, CurveFromText, VerdictIsUnique, CertifiedIsRight, PointIsUnique, CurveIsUnique};
 
 /// A text of the kind `par` that is accepted gives a monotone network within the limits of texts: 2 to 1000 nodes, at most
 /// 10000 arcs, coefficients and the two numbers of each end of the interval at most 1000000000 in size, and these ends in
@@ -24,4 +24,10 @@ pub fn verdict_is_unique()
 /// A text certifies the curve of a monotone network exactly where it is a right answer to `curve`.
 pub fn certified_texts_are_right_answers()
     ensures { CertifiedIsRight }
+{}
+
+/// All but the flows is the same in two right answers: the parameter and the cut at one parameter; the points and the cuts of a curve.
+pub fn answers_are_unique()
+    ensures point { PointIsUnique }
+    ensures curve { CurveIsUnique }
 {}
