@@ -2,7 +2,7 @@ use Rattle.std.proofs.Common.{◌≡◌, ◌+◌, take, ap, ◌∙◌, rules, ar
 use Rattle.std.proofs.lemmas.List.{length-take, with_items_is, places}
 use Rattle.pf_io.specs.Told.{Gave}
 use Rattle.pf_io.proofs.ToldLemmas.{gave_behind}
-use Rattle.pf_io.proofs.transfer.read_all.Goals as goal
+use Rattle.pf_io.proofs.transfer.read_counted.Goals as goal
 
 pub returns-then-used-limit-clause-too_long : goal.returns-then-used-limit-clause-too_long
 returns-then-used-limit-clause-too_long g c = λ _.
@@ -23,5 +23,6 @@ reads-preserved g c =
       few = search rules;
       used = search (rules, places);
       capped = search rules;
+      reads = search (rules, places);
       later = search rules;
     }
