@@ -16,8 +16,7 @@ pub fn print_number<K: Sink>(out: &mut Printer<'_, K>, number: &i128) -> Result<
     ensures { Adds out.old out.new (32 ∷ signed_decimal number.now) result }
 {
     let value = *number;
-    out.word(b" ")?;
-    out.num(value)
+    out.field(value)
 }
 
 /// A space, and a number that is not below 0.
@@ -25,8 +24,7 @@ pub fn print_index<K: Sink>(out: &mut Printer<'_, K>, index: usize) -> Result<()
     requires { is_spent out.old ≡ false }
     ensures { Adds out.old out.new (32 ∷ decimal index) result }
 {
-    out.word(b" ")?;
-    out.num(index as i128)
+    out.field(index as i128)
 }
 
 /// The numbers, each with a space in front.
@@ -68,11 +66,9 @@ fn print_node<K: Sink>(out: &mut Printer<'_, K>, inside: bool) -> Result<(), Fai
     ensures { Adds out.old out.new (side_text (inside ∷ [])) result }
 {
     if inside {
-        out.word(b"1")?;
-        return Ok(());
+        return out.byte(b'1');
     }
-    out.word(b"0")?;
-    Ok(())
+    out.byte(b'0')
 }
 
 /// One character for each node.
@@ -105,7 +101,7 @@ pub fn print_rest<K: Sink>(out: &mut Printer<'_, K>, numbers: &[i128]) -> Result
     ensures { Adds out.old out.new (rest_of_line (map signed_decimal numbers.now)) result }
 {
     print_numbers(out, numbers)?;
-    out.word(b"\n")
+    out.byte(b'\n')
 }
 
 // The rest of a line that is a side.
@@ -113,9 +109,9 @@ fn print_rest_side<K: Sink>(out: &mut Printer<'_, K>, side: &[bool]) -> Result<(
     requires { is_spent out.old ≡ false }
     ensures { Adds out.old out.new (rest_of_line (side_text side.now ∷ [])) result }
 {
-    out.word(b" ")?;
+    out.byte(b' ')?;
     print_side(out, side)?;
-    out.word(b"\n")
+    out.byte(b'\n')
 }
 
 // The rest of a line of numbers and a side.
@@ -137,7 +133,7 @@ fn print_rest_labels<K: Sink>(out: &mut Printer<'_, K>, labels: &[u32]) -> Resul
     ensures { Adds out.old out.new (rest_of_line (map decimal labels.now)) result }
 {
     print_label_fields(out, labels)?;
-    out.word(b"\n")
+    out.byte(b'\n')
 }
 
 // The two numbers of a fraction, each with a space in front.

@@ -1,17 +1,10 @@
 use Rattle.std.proofs.Common.{rules}
-use Rattle.std.proofs.lemmas.Result.{err_from_is_err_and}
 use Rattle.std.proofs.lemmas.Int.{to_z-of_z}
 use Rattle.std.specs.Int.{w128}
 use mir.Val.{SFits}
-use Rattle.pf_io.proofs.PrintingLemmas.{adds_then, adds_stopped}
 use Rattle.pf_io.proofs.printing.print_number.Goals as goal
-
-pub returns-in_err-word : goal.returns-in_err-word
-returns-in_err-word g c =
-    let p = err_from_is_err_and c.from_residual.result c.from_residual.ensures.1 in
-    rw p.1 (adds_stopped _ c.in_err-word.ensures)
 
 pub returns : goal.returns
 returns g c =
     let fits : SFits w128 c.args.number.now = search rules in
-    adds_then c.in_ok-word.ensures (rw (to_z-of_z w128 c.args.number.now fits) at c.num.ensures)
+    rw (to_z-of_z w128 c.args.number.now fits) at c.field.ensures

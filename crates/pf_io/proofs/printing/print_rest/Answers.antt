@@ -11,4 +11,4 @@ returns-in_err-print_numbers g c =
     rw (p.1, ← rest_is (map signed_decimal c.args.numbers.now)) (adds_stopped (10 ∷ []) c.in_err-print_numbers.ensures)
 
 pub returns : goal.returns
-returns g c = rw (← rest_is (map signed_decimal c.args.numbers.now)) (adds_then c.in_ok-print_numbers.ensures c.word.ensures)
+returns g c = rw (← rest_is (map signed_decimal c.args.numbers.now)) (adds_then c.in_ok-print_numbers.ensures c.byte.ensures)

@@ -11,4 +11,4 @@ returns-in_err-print_label_fields g c =
     rw (p.1, ← rest_is (map decimal c.args.labels.now)) (adds_stopped (10 ∷ []) c.in_err-print_label_fields.ensures)
 
 pub returns : goal.returns
-returns g c = rw (← rest_is (map decimal c.args.labels.now)) (adds_then c.in_ok-print_label_fields.ensures c.word.ensures)
+returns g c = rw (← rest_is (map decimal c.args.labels.now)) (adds_then c.in_ok-print_label_fields.ensures c.byte.ensures)
