@@ -2,6 +2,8 @@
 import io
 import pickle
 import re
+from decimal import Decimal
+from fractions import Fraction
 
 import pytest
 from conftest import EXAMPLES
@@ -9,7 +11,10 @@ from conftest import EXAMPLES
 import ppart
 from ppart import errors, explain, numbers, program
 
+# The network of three nodes, and its answers.
 TEXT = "p par 3 2\ni 0 1 10 1\nn 1 s\nn 3 t\na 1 2 0 1\na 2 3 4 0\nend\n"
+AT_4 = "o at\nb 4 1 4\ns 0 1 100\nf 4 4\nend\n"
+CURVE = (EXAMPLES / "three-nodes.curve.out").read_text()
 B = 10**9
 
 
@@ -35,7 +40,10 @@ def raised(make, kind, said, about=None):
     (errors.NotExact, "the low end", "inf", lambda: network(("s", "t", 1), low=float("-inf"))),
     (errors.NotExact, "the price of a - b", "'dear'", lambda: ppart.Graph([("a", "b", 1, "dear")])),
     (errors.NotExact, "the cost of x", "None", lambda: ppart.Closure({"x": (None, 1)})),
-    *((errors.NotExact, "a number", "no exact number", lambda v=v: numbers.exact(v)) for v in ("", "nan", "1/0", [], b"1")),
+    *((errors.NotExact, "a number", "no exact number", lambda v=v: numbers.exact(v))
+      for v in ("", "nan", "1/0", [], b"1", "1e9999", "1e-999999999", "9" * 2000, Decimal("1e9999"))),
+    (errors.OutOfRange, None, "units of a number of more than 40 digits",
+     lambda: network(("s", "t", "1e9"), *(("s", "a", Fraction(1, 10**30 + i)) for i in range(300)))),
     (errors.OutOfRange, "s -> t", "is -1; the program takes", lambda: ppart.Sharing([("s", "t", -1)], "t", {})),
     (errors.OutOfRange, "s -> t", "1000000000; .* -1000000000 to 1000000000 units of 1/3",
      lambda: network(("s", "a", "1/3"), ("s", "t", B))),
@@ -86,23 +94,31 @@ def raised(make, kind, said, about=None):
     # files and graphs
     (errors.Unreadable, None, "not well formed", lambda: ppart.read("p par 3 2\nn 1 s\nend\n")),
     (errors.Unreadable, None, "not well formed", lambda: ppart.read("")),
+    *((errors.Unreadable, None, said, lambda old=old, new=new: ppart.read(TEXT.replace(old, new))) for old, new, said in (
+        ("end\n", "", "no line `end`"), ("end\n", "end\na 1 2 3 4\n", "after `end`"), ("3 2\n", "3 1\n", "should have 1"),
+        ("4 0\n", "4 +0\n", "'.0' is no number"), ("a 1", "b 1", "lines that begin with b"), ("2 0 1", "2 0", "has not 4"), ("10 1\n", "10 1 1\n", "four numbers"),
+        ("i 0", "d falling\ni 0", "do not fit the line d"), ("n 3 t", "n 3 t\nn 2 t", "should have 2"))),
+    (errors.Unreadable, None, "same first number", lambda: ppart.read("p graph 2 0\nv 1 2\nv 1 3\nend\n")),
+    (errors.OutOfRange, None, "999999999 names", lambda: ppart.read("p graph 999999999 0\nend\n")),
     (errors.Unreadable, None, "not well formed", lambda: ppart.read("p graph 2 1\ne 1 7 1\nend\n")),
     (errors.Unreadable, "cake", "kind cake", lambda: ppart.read("p cake 3\nend\n")),
     (errors.Unreadable, None, "kind par, neither max nor min", lambda: ppart.Network.from_dimacs(TEXT)),
     (errors.Unreadable, None, "lower bound 2", lambda: ppart.Network.from_dimacs("p min 2 1\nn 1 4\nn 2 -4\na 1 2 2 5 1\n")),
     # what commands take
     (errors.OutOfRange, "11", "outside the interval from 0 to 10", lambda: ppart.at(ppart.read(TEXT), 11)),
-    (errors.OutOfRange, "-1/2", "outside the interval", lambda: ppart.curve(ppart.read(TEXT)).value("-1/2")),
+    (errors.OutOfRange, "-1/2", "outside the interval", lambda: ppart.read_answer("curve", ppart.read(TEXT), CURVE).value("-1/2")),
     (errors.OutOfRange, None, "denominator|by 1 to", lambda: ppart.at(ppart.read(TEXT), "1/1000000001")),
+    (errors.OutOfRange, None, "steps are too fine", lambda: ppart.sweep(network(("s", "t", 1), high="1/99999999"), 90000)),
     (errors.OutOfRange, None, "number of steps is 0", lambda: ppart.sweep(ppart.read(TEXT), 0)),
     (errors.OutOfRange, None, "number of steps is 1/2", lambda: ppart.sweep(ppart.read(TEXT), "1/2")),
     (errors.OutOfRange, None, "number of trees is 501", lambda: ppart.trees(ppart.Graph([("a", "b")]), 501)),
     (errors.OutOfRange, None, "the level is -1", lambda: ppart.reinforce(ppart.Graph([("a", "b")]), -1)),
-    (errors.OutOfRange, None, "the price -1 is below 0", lambda: ppart.select(ppart.Selection({"x": 1}, {})).at(-1)),
+    (errors.OutOfRange, None, "the price -1 is below 0", lambda: ppart.read_answer(
+        "select", ppart.Selection({"x": 1}, {}), "o select\nk 0\ns 0 0\nend\n").at(-1)),
     (errors.OutOfRange, None, "101 vertices for strength", lambda: ppart.strength(ppart.Graph([], vertices=range(101)))),
     (errors.OutOfRange, None, "501 edges for trees", lambda: ppart.trees(ppart.Graph([("a", "b")] * 501), 1)),
     (errors.WrongKind, None, "curve takes a Network, not a Graph", lambda: ppart.curve(ppart.Graph([("a", "b")]))),
-    (errors.WrongKind, None, "no check for at", lambda: ppart.at(ppart.read(TEXT), 1).check()),
+    (errors.WrongKind, None, "no check for at", lambda: ppart.read_answer("at", ppart.read(TEXT), AT_4, 4).check()),
     (errors.WrongKind, "cake", "no command cake", lambda: next(ppart.solve([], "cake"))),
 ])
 def test_what_does_not_fit(kind, about, said, make):
@@ -129,7 +145,7 @@ def test_graphs_that_do_not_fit():
     ("kill -9 $$", errors.Stopped, "stopped by SIGKILL.*memory"), ("kill -40 $$", errors.Stopped, "signal 40|RT"),
     ("echo o curve; echo b 0 0", errors.BadAnswer, "cannot be read"), ("", errors.BadAnswer, "does not begin with `o curve`"),
     ("echo o curve; echo k 0; echo end", errors.BadAnswer, "0 lines b, and should have 1"),
-    ("printf 'o curve\\nk 1\\nb 0 0 1 0\\ns 1 0 1 10\\nb 1 10 1 4\\nend\\n'", errors.BadAnswer, "argument|zip"),
+    ("printf 'o curve\\nk 1\\nb 0 0 1 0\\ns 1 0 1 10\\nb 1 10 1 4\\nend\\n'", errors.BadAnswer, "lines|argument|zip"),
     ("printf '\\377'", errors.BadAnswer, "no text"), ("echo o at; echo end", errors.BadAnswer, "o curve"),
 ])
 def test_a_program_that_does_not_answer(fake, body, kind, said):
@@ -155,11 +171,11 @@ def test_no_program(monkeypatch, tmp_path):
     raised(program.find, errors.NotFound, "PPART or with program=")
     (tmp_path / "launcher").write_text("")
     raised(program.find, errors.NotBuilt, "not built yet; run ./ppart once", str(tmp_path / "launcher"))
+    (tmp_path / "out").write_text("")
+    assert program.find() == str(tmp_path / "out")
     (tmp_path / "ppart").write_text("#!/bin/sh\n")
     (tmp_path / "ppart").chmod(0o755)
     assert program.find() == str(tmp_path / "ppart")
-    (tmp_path / "out").write_text("")
-    assert program.find() == str(tmp_path / "out")
     monkeypatch.setenv("PPART", "elsewhere")
     assert program.find() == "elsewhere" and program.find("here") == "here"
     raised(lambda: program.run(["curve"], TEXT, tmp_path / "nothing"), errors.NotFound, "cannot be run: No such file")
@@ -192,5 +208,7 @@ def test_refusals():
 def test_check():
     network = ppart.read((EXAMPLES / "three-nodes.par").read_text())
     curve = ppart.curve(network)
-    assert curve.check() and not curve.check(curve.raw.replace("f 2 4 4", "f 2 4 3"))
-    assert repr(ppart.at(network, 5)).startswith("At(x=Fraction(5, 1), value=Fraction(4, 1), slope=Fraction(0, 1)")
+    assert curve.check()
+    changed = curve.raw.replace("f 2 4 4", "f 2 4 3")
+    assert not ppart.read_answer("curve", network, changed).check()
+    assert repr(ppart.at(network, 5)).startswith("LeastCut(x=Fraction(5, 1), value=Fraction(4, 1), slope=Fraction(0, 1)")

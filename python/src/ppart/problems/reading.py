@@ -78,6 +78,8 @@ def read_network(lines: Lines, sizes: Sequence[int], name: list[Name]) -> Networ
     lines.counted("a", count)
     ends = {which: name[whole(node)] for node, which in lines.counted("n", 2)}
     interval = lines.one("i")
+    if len(interval) != 4:
+        raise ValueError("the line i has not four numbers")
     arcs = [(name[tail], name[head], capacity, slope) for tail, head, capacity, slope in lines.numbers("a", 4)]
     found = Network(arcs, ends["s"], ends["t"], fraction(interval), fraction(interval[2:]), name[1:])
     said = lines.all("d") == [["falling"]]
