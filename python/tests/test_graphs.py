@@ -9,7 +9,7 @@ import ppart
 pytestmark = pytest.mark.program
 
 
-@pytest.mark.parametrize("seed", range(60))
+@pytest.mark.parametrize("seed", range(40))
 def test_densest_and_layers(seed):
     g = small.graph(seed)
     found = ppart.densest(g)
@@ -31,7 +31,7 @@ def test_densest_and_layers(seed):
     assert taken == set(list(g.number))
 
 
-@pytest.mark.parametrize("seed", range(60))
+@pytest.mark.parametrize("seed", range(40))
 def test_closure_and_layers(seed):
     p = small.closure(seed)
     found = ppart.closure(p)
@@ -49,7 +49,7 @@ def test_closure_and_layers(seed):
         taken |= set(layer.names)
 
 
-@pytest.mark.parametrize("seed", range(60))
+@pytest.mark.parametrize("seed", range(40))
 def test_select(seed):
     p = small.selection(seed)
     found = ppart.select(p)
@@ -63,7 +63,7 @@ def test_select(seed):
     assert found.worths == [found.worth(x) for x in found.prices]
 
 
-@pytest.mark.parametrize("seed", range(60))
+@pytest.mark.parametrize("seed", range(40))
 def test_share(seed):
     """Levels rise together until a set of sources is held back by a cut; these stay, and the others rise further."""
     p = small.sharing(seed)
@@ -111,7 +111,7 @@ def test_strength_and_partition(seed):
     assert sorted(v for part in principal.tree() for v in leaves(part)) == sorted(list(g.number))
 
 
-@pytest.mark.parametrize("seed", range(60))
+@pytest.mark.parametrize("seed", range(40))
 def test_reinforce(seed):
     """The level is reached, and at the cost that linear programming finds."""
     g, level = small.graph(seed, most=5), Fraction(7, 3)

@@ -32,7 +32,7 @@ def is_flow(network, x, flow, value):
                                                        and value] and gets[network.sink] == value
 
 
-@pytest.mark.parametrize("seed", range(120))
+@pytest.mark.parametrize("seed", range(80))
 def test_curve(seed):
     network = small.network(seed)
     curve = ppart.curve(network)

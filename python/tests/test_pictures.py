@@ -9,7 +9,7 @@ import ppart
 matplotlib = pytest.importorskip("matplotlib")
 from drawings import DRAWINGS, ask, picture_of, stored  # noqa: E402
 
-from ppart import answers, errors, pictures, words  # noqa: E402
+from ppart import answers, errors, pictures, tables, words  # noqa: E402
 
 FOLDER = TOP / "docs" / "pictures"
 
@@ -41,11 +41,12 @@ def test_stored(name, tmp_path):
 
 @pytest.mark.program
 @pytest.mark.parametrize("name", sorted(set(DRAWINGS) - FREE))
-def test_answers(name, tmp_path):
-    """The answers are stored as the program gives them; where flows are free, the picture is still the same."""
-    pictures.save(picture_of(DRAWINGS[name], ask(DRAWINGS[name])), tmp_path / "asked.svg")
-    pictures.save(picture_of(DRAWINGS[name], stored(name)), tmp_path / "stored.svg")
-    assert words_of((tmp_path / "asked.svg").read_text()) == words_of((tmp_path / "stored.svg").read_text())
+def test_answers(name):
+    """The stored answers say what the program says; flows, vectors and trees are free."""
+    drawing = DRAWINGS[name]
+    found = [ppart.read_answer(drawing.command, drawing.problem(), raw, drawing.argument)
+             for raw in (ask(drawing), stored(name))]
+    assert tables.table(found[0]) == tables.table(found[1])
 
 
 def test_what_they_say():
@@ -124,7 +125,7 @@ def test_many_nodes():
 @pytest.mark.program
 def test_edge_cases(tmp_path):
     """No prices, no levels, no edges, negative levels, many of everything: each can be drawn."""
-    many = ppart.Graph([(f"a{i}", f"a{i + 1}", i % 7 + 1) for i in range(60)])
+    many = ppart.Graph([(f"a{i}", f"a{i + 1}", i % 7 + 1) for i in range(40)])
     items = {f"item {i}": (i - 20, 1) for i in range(50)}
     wide = [("s", i, 0, i + 1) for i in range(12)] + [(i, "t", 9) for i in range(12)]
     thread = ppart.Graph([("a", "b")] * 5)

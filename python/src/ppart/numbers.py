@@ -56,7 +56,7 @@ def common_factor(values: Iterable[Fraction], most: int) -> Fraction:
     """
     given = list(values)
     denominator = lcm(*(value.denominator for value in given))
-    wholes = [int(value * denominator) for value in given]
+    wholes = [value.numerator * (denominator // value.denominator) for value in given]
     if all(abs(whole) <= most for whole in wholes):
         return Fraction(denominator)
     return Fraction(denominator, gcd(*wholes))

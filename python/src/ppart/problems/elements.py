@@ -18,7 +18,7 @@ class Arc(NamedTuple):
 
     def at(self, x: Fraction) -> Fraction:
         """The capacity at this parameter."""
-        return self.capacity + self.slope * x
+        return self.capacity + self.slope * x if self.slope else self.capacity
 
     def __str__(self) -> str:
         return f"{self.tail} -> {self.head}"

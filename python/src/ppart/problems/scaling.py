@@ -23,8 +23,10 @@ def scale_of(what: str, values: Iterable[tuple[object, Fraction]], low: int, hig
     given = list(values)
     scale = common_factor([value for _, value in given], high)
     unit = "" if scale == 1 else f" units of {brief(1 / scale)}, which all numbers of this kind share"
+    lowest = low / scale
+    highest = high / scale
     for owner, value in given:
-        if not low <= value * scale <= high:
+        if not lowest <= value <= highest:
             raise OutOfRange(f"the {what} of {owner} is {brief(value)}; the program takes {low} to {high}{unit}", owner)
     return scale
 
