@@ -8,7 +8,7 @@ import sys
 import pytest
 from conftest import EXAMPLES
 
-from ppart import command_line, words
+from ppart import command_line, errors, words
 
 pytestmark = pytest.mark.program
 
@@ -24,14 +24,33 @@ SAID = {  # a line of each table
 
 
 @pytest.mark.parametrize("file, asked", [(file, asked) for file, all_asked in ASKED.items() for asked in all_asked])
-def test_tables(file, asked, capsys, tmp_path):
+def test_tables(file, asked, capsys):
     checked = words.COMMANDS[asked[0]].answer.checked
-    arguments = [*asked, "--text", str(EXAMPLES / file), "--picture", str(tmp_path / "picture.svg")]
-    pytest.importorskip("matplotlib")
+    arguments = [*asked, "--text", str(EXAMPLES / file)]
     assert command_line.main(arguments + ["--check"] * checked) == 0
     out = capsys.readouterr().out
     assert SAID.get(asked[0], "") in out.splitlines() + [""] and ("checked: yes" in out) == checked
+
+
+def test_picture(capsys, tmp_path):
+    pytest.importorskip("matplotlib")
+    text = str(EXAMPLES / "three-nodes.par")
+    assert command_line.main(["curve", "--text", text, "--picture", str(tmp_path / "picture.svg")]) == 0
     assert "</svg>" in (tmp_path / "picture.svg").read_text()
+    with pytest.raises(errors.WrongKind, match="picture.cake does not end with .*svg"):
+        command_line.main(["curve", "--text", text, "--picture", str(tmp_path / "picture.cake")])
+    with pytest.raises(SystemExit):
+        command_line.main(["curve", "--text", text, text, "--picture", str(tmp_path / "picture.svg")])
+
+
+def test_an_interval_for_at(capsys, tmp_path):
+    """Without --low and --high the interval begins with the parameter, and has to fit."""
+    (tmp_path / "arcs.csv").write_text("a,b,4,-1\nb,c,4.5\n")
+    arguments = ["at", "3.5", "--csv", str(tmp_path / "arcs.csv"), "--source", "a", "--sink", "c"]
+    assert command_line.main(arguments) == 3
+    assert "capacity of a -> b is -1/2 at 9/2, below 0; give --low and --high" in capsys.readouterr().err
+    assert command_line.main([*arguments, "--low", "0", "--high", "4"]) == 0
+    assert capsys.readouterr().out.split("\n")[1] == "7/2  1/2        a -> b"
 
 
 def test_csv(capsys, tmp_path):

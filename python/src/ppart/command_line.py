@@ -7,7 +7,7 @@ import sys
 from concurrent.futures import ThreadPoolExecutor
 from typing import Any
 
-from ppart.errors import Error, Refused, Unfit, Usage
+from ppart.errors import Error, OutOfRange, Refused, Unfit, Usage
 from ppart.explain import explain
 from ppart.many import Outcome, solve
 from ppart.moving import MovingLine
@@ -58,6 +58,8 @@ def main(arguments: list[str]) -> int:
         parser.error("give a problem: --csv FILE or --text FILE")
     if asked.picture and len(paths) > 1:
         parser.error("--picture is for one problem")
+    if asked.picture:
+        must_draw(asked.picture)
     status = 0
     for path, outcome in zip(paths, outcomes(paths, asked)):
         if len(paths) > 1:
@@ -65,6 +67,15 @@ def main(arguments: list[str]) -> int:
         where = f"ppart: {path}: " if len(paths) > 1 else "ppart: "
         status = max(status, tell(outcome, asked, where))
     return status
+
+
+def must_draw(path: str) -> None:
+    """Raises Unfit or WrongKind, before any work, where no picture can be written to this path."""
+    try:
+        from ppart import pictures  # takes matplotlib, which other uses need not have
+    except ImportError as error:
+        raise Unfit(f"pictures take matplotlib (Debian: python3-matplotlib): {error}", path) from error
+    pictures.must_be_picture(path)
 
 
 def explain_text(words: list[str]) -> int:
@@ -124,8 +135,15 @@ def network_from_csv(asked: argparse.Namespace) -> Network:
     if asked.command == "at" and asked.argument is not None:
         low = low or asked.argument
         high = high or str(exact(asked.argument, "the parameter") + 1)
-    must_have(asked, "source", "sink", *([] if low and high else ["low", "high"]))
-    return Network.from_csv(asked.csv, asked.source, asked.sink, low, high)
+    else:
+        must_have(asked, "low", "high")
+    must_have(asked, "source", "sink")
+    try:
+        return Network.from_csv(asked.csv, asked.source, asked.sink, low, high)
+    except OutOfRange as error:
+        if asked.low and asked.high:
+            raise
+        raise Unfit(f"{error.said}; give --low and --high, an interval on which all fits", error.about) from None
 
 
 def must_have(asked: argparse.Namespace, *names: str) -> None:
@@ -153,7 +171,7 @@ def tell_answer(answer: Any, asked: argparse.Namespace) -> int:
     """Prints the table of an answer, draws and checks it if that was asked, and returns the exit code."""
     print(table(answer))
     if asked.picture:
-        from ppart import pictures  # takes matplotlib, which other uses need not have
+        from ppart import pictures
         pictures.save(pictures.picture(answer), asked.picture)
     if not asked.check:
         return 0

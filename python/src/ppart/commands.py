@@ -79,7 +79,8 @@ def select(selection: Selection, *, program: Program | None = None, timeout: flo
     gain for each unit of cost, worths in units of gain. If several selections are best, it is the greatest, and at the
     price 0 the smallest. The answer can be checked.
 
-    >>> found = select(Selection({"maps": 2, "chat": 4}, {"routes": "3.5", "talk": 1}, {"routes": ["maps"], "talk": ["chat"]}))
+    >>> needs = {"routes": ["maps"], "talk": ["chat"]}
+    >>> found = select(Selection({"maps": 2, "chat": 4}, {"routes": "3.5", "talk": 1}, needs))
     >>> [str(price) for price in found.prices], sorted(found.at(1)), found.worth(1), found.check()
     (['1/4', '7/4'], ['maps'], Fraction(3, 2), True)
     """

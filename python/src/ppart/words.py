@@ -53,7 +53,8 @@ def trees_word(graph: Any, count: Number) -> str:
 def fraction_word(value: Fraction, what: str) -> str:
     """A fraction as a word, or OutOfRange above 9 digits."""
     if max(abs(value.numerator), value.denominator) > BILLION:
-        raise OutOfRange(f"{what} is {brief(value)}; the program takes -{BILLION} to {BILLION} by 1 to {BILLION}", value)
+        taken = f"-{BILLION} to {BILLION} by 1 to {BILLION}"
+        raise OutOfRange(f"{what} is {brief(value)}; the program takes {taken}", value)
     return f"{value.numerator}/{value.denominator}"
 
 
@@ -127,7 +128,7 @@ def read_answer(name: str, problem: Problem, raw: str, argument: Number | None =
     right; `check` of the answer does, where there is one.
 
     >>> network = Network([("a", "b", 0, 1), ("b", "c", 4)], "a", "c", 0, 2)
-    >>> read_answer("curve", network, "o curve\\nk 1\\nb 0 0 1 0\\ns 1 0 1 100\\nb 1 2 1 2\\nf 0 0 0\\nf 1 2 2\\nend\\n").value(1)
+    >>> read_answer("at", network, "o at\\nb 1 1 1\\ns 0 1 100\\nf 1 1\\nend\\n", 1).value
     Fraction(1, 1)
     """
     words = words_for(name, problem, argument)

@@ -21,6 +21,7 @@ class CheapestClosure(Answer[Closure]):
     items: frozenset[Name]
 
     def read(self, lines: Lines) -> None:
+        """Reads the lines r and s."""
         self.ratio = fraction(lines.one("r")) * self.problem.weight_scale / self.problem.cost_scale
         self.items = chosen(self.problem.number, lines.one("s")[0])
 
@@ -39,6 +40,7 @@ class Schedule(Answer[Selection]):
     selections: list[frozenset[Name]]
 
     def read(self, lines: Lines) -> None:
+        """Reads the lines k, b and s."""
         cost_scale = self.problem.cost_scale
         gain_scale = self.problem.gain_scale
         self.prices = []
@@ -78,6 +80,7 @@ class FairShares(Answer[Sharing]):
     shares: dict[Name, Fraction]
 
     def read(self, lines: Lines) -> None:
+        """Reads the lines k, l, m and x."""
         problem = self.problem
         name = [None, *problem.number]
         unit = problem.weight_scale / problem.scale

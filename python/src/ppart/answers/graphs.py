@@ -19,6 +19,7 @@ class DensestSet(Answer[Graph]):
     vertices: frozenset[Name]
 
     def read(self, lines: Lines) -> None:
+        """Reads the lines d and s."""
         self.density = fraction(lines.one("d")) * self.problem.cost_scale / self.problem.scale
         self.vertices = chosen(self.problem.number, lines.one("s")[0])
 
@@ -37,6 +38,7 @@ class Strength(Answer[Graph]):
     crossing: list[Edge]
 
     def read(self, lines: Lines) -> None:
+        """Reads the lines d and s."""
         self.strength = fraction(lines.one("d")) / self.problem.scale
         self.parts = parts_of(self.problem.number, lines.one("s"))
         self.crossing = self.problem.crossing(self.parts)
@@ -56,6 +58,7 @@ class Reinforcement(Answer[Graph]):
     components: list[list[Name]]
 
     def read(self, lines: Lines) -> None:
+        """Reads the lines d, x and c, or `none` and s."""
         graph = self.problem
         self.possible = not lines.all("none")
         self.added = []
@@ -82,6 +85,7 @@ class SpanningTrees(Answer[Graph]):
     parts: list[list[Name]]
 
     def read(self, lines: Lines) -> None:
+        """Reads the lines k and m, or `none` and s."""
         self.possible = not lines.all("none")
         self.trees = []
         self.parts = []
@@ -107,6 +111,7 @@ class LayerList(Answer[Graph | Closure]):
     layers: list[Layer]
 
     def read(self, lines: Lines) -> None:
+        """Reads the lines k, l and m."""
         problem = self.problem
         if isinstance(problem, Graph):
             unit = problem.cost_scale / problem.scale

@@ -31,6 +31,7 @@ class LeastCut(Answer[Network]):
     bottleneck: list[Arc]
 
     def read(self, lines: Lines) -> None:
+        """Reads the lines b, s and f."""
         point = lines.one("b")
         cut = lines.one("s")
         self.x = fraction(point)
@@ -71,6 +72,7 @@ class Curve(Answer[Network]):
     breakpoints: list[Fraction]
 
     def read(self, lines: Lines) -> None:
+        """Reads the lines k, b and s; `flow` reads the lines f."""
         scale = self.problem.scale
         self.points = []
         for _, p, q, value in lines.counted("b", lines.count() + 1):
@@ -124,6 +126,7 @@ class Sweep(Answer[Network]):
     rows: list[Row]
 
     def read(self, lines: Lines) -> None:
+        """Reads the lines k and x."""
         self.rows = []
         for _, p, q, value, nodes in lines.counted("x", lines.count() + 1):
             x = fraction([p, q])

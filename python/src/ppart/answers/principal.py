@@ -31,6 +31,7 @@ class PrincipalPartition(Answer[Graph]):
     partitions: list[list[list[Name]]]
 
     def read(self, lines: Lines) -> None:
+        """Reads the lines k, b and s."""
         self.levels = [fraction(fields[1:]) / self.problem.scale for fields in lines.counted("b", lines.count())]
         labels = lines.counted("s", lines.count() + 1)
         self.partitions = [parts_of(self.problem.number, fields[1:]) for fields in labels]

@@ -16,11 +16,11 @@ from ppart.pictures.bars import layers, schedule, shares
 from ppart.pictures.curves import curve, sweep
 from ppart.pictures.graphs import densest, reinforce, strength, trees
 from ppart.pictures.networks import closure, network
-from ppart.pictures.paper import save
+from ppart.pictures.paper import must_be_picture, save
 from ppart.pictures.tree import partition
 
-__all__ = ["PICTURES", "closure", "curve", "densest", "layers", "network", "partition", "picture", "reinforce", "save",
-           "schedule", "shares", "strength", "sweep", "trees"]
+__all__ = ["PICTURES", "closure", "curve", "densest", "layers", "must_be_picture", "network", "partition", "picture",
+           "reinforce", "save", "schedule", "shares", "strength", "sweep", "trees"]
 
 PICTURES: dict[type[answers.Answer[Any]], Callable[..., Figure]] = {
     answers.LeastCut: network,

@@ -28,7 +28,10 @@ class Bar(NamedTuple):
 
 
 def draw_bars(rows: Sequence[Bar], label: str, title: str, height: float = 0.3) -> tuple[Figure, Any]:
-    """Bars from 0, `height` inches apart, thinner ones above forty; of more than 120 the first, and the title says so."""
+    """Bars from 0, `height` inches apart, thinner ones above forty.
+
+    Of more than 120 the first are drawn, and the title says so.
+    """
     if len(rows) > MOST_BARS:
         title = f"{title} (the first {MOST_BARS} of {len(rows)})"
         rows = rows[:MOST_BARS]

@@ -124,7 +124,8 @@ def wheel(names: Sequence[Name], links: Sequence[Link], fill: Mapping[Name, str]
     places = {}
     for j, name in enumerate(names):
         turn = 2 * math.pi * j / count
-        across, up = math.sin(turn), math.cos(turn)
+        across = math.sin(turn)
+        up = math.cos(turn)
         places[name] = (radius * across, radius * up)
         degrees = 90 - math.degrees(turn)
         is_left = across < -1e-9

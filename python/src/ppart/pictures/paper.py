@@ -10,6 +10,7 @@ from typing import Any
 import matplotlib
 from matplotlib.figure import Figure
 
+from ppart.errors import WrongKind
 from ppart.numbers import show
 
 # Colours after Okabe and Ito: they differ in grey print too, and for readers who do not see all colours.
@@ -28,13 +29,21 @@ DOTTED: dict[str, Any] = {"color": GREY, "linewidth": 0.6, "linestyle": (0, (2, 
 
 
 def save(figure: Figure, path: str | os.PathLike[str]) -> None:
-    """Writes the figure; the ending of the path, as .svg, .png or .pdf, says how.
+    """Writes the figure; the ending of the path, as .svg, .png or .pdf, says how. Raises WrongKind for another one.
 
     The same figure becomes the same SVG each time, and its words stay words.
     """
+    must_be_picture(path)
     metadata = {"Date": None} if str(path).endswith(".svg") else None
     with matplotlib.rc_context({"svg.hashsalt": "ppart", "svg.fonttype": "none"}):
         figure.savefig(path, dpi=150, metadata=metadata)
+
+
+def must_be_picture(path: str | os.PathLike[str]) -> None:
+    """Raises WrongKind for a path that does not end like a file of pictures."""
+    endings = Figure().canvas.get_supported_filetypes()
+    if os.path.splitext(path)[1].removeprefix(".") not in endings:
+        raise WrongKind(f"{os.fspath(path)} does not end with {', '.join(sorted(endings))}", path)
 
 
 def empty_figure(width: float, heights: Sequence[float], title: str) -> tuple[Figure, list[Any]]:

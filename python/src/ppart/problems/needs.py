@@ -21,7 +21,8 @@ def pairs_of(needs: Needs) -> list[tuple[Name, Name]]:
     return [(user, used) for user, used in needs]
 
 
-def known_needs(needs: Needs, users: Mapping[Name, int], used: Mapping[Name, int], most: int) -> list[tuple[Name, Name]]:
+def known_needs(needs: Needs, users: Mapping[Name, int], used: Mapping[Name, int],
+                most: int) -> list[tuple[Name, Name]]:
     """The needs as pairs, whose names are among `users` and `used`. Raises UnknownName, and OutOfRange above `most`."""
     found = pairs_of(needs)
     for one, other in found:
