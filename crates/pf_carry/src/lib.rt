@@ -3,8 +3,6 @@
 #![tactic(auto)]
 
 mod scaling;
-#[cfg(test)]
-mod tests;
 mod trimming;
 mod units;
 

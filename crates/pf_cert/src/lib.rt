@@ -8,8 +8,6 @@ mod check;
 mod cuts;
 mod flows;
 mod points;
-#[cfg(test)]
-mod tests;
 
 pub use certified::is_certified;
 pub use check::check_curve;

@@ -16,8 +16,6 @@ mod ratio;
 mod reading;
 mod solving;
 mod sums;
-#[cfg(test)]
-mod tests;
 mod text;
 
 pub use checking::{check_ratio, is_certified, is_certified_text};

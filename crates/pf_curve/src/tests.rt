@@ -1,53 +1,17 @@
-// The network of three nodes in a row, whose first arc grows with the parameter, and others.
+// How many pieces are opened and how many flows are carried, which no clause says.
 ghost use Rattle.std.specs.Prelude.{◌≡◌, IfOk};
 ghost use Rattle.pf_model.specs.declared.Sense.TheVariants.{Rising};
 
 use crate::between::Opened;
+use crate::cuts_of;
 use crate::family::Cuts;
 use crate::finder::Finder;
 use crate::function::flows_at;
-use crate::{at, curve_of, cuts_of};
 use pf_envelope::envelope;
 use pf_net::{AffineArc, Net};
 use pf_rat::Rat;
 use std::alloc::Global;
 use std::test::Fail;
-
-fn three_nodes(alloc: Global) -> Result<Net, Fail> {
-    let first = AffineArc {
-        tail: 0,
-        head: 1,
-        a: 0,
-        b: 1,
-    };
-    let second = AffineArc {
-        tail: 1,
-        head: 2,
-        a: 4,
-        b: 0,
-    };
-    let arcs = [first, second];
-    Ok(Net::build(alloc, 3, 0, 2, Rat::new(0, 1), Rat::new(10, 1), &arcs)?)
-}
-
-#[test]
-fn the_smallest_of_two_least_cuts(rt: HostRuntime) -> Result<(), Fail> {
-    let net = three_nodes(rt.alloc())?;
-    let point = at(rt.alloc(), &net, &Rat::new(4, 1))?;
-    assert_eq!(rt; point.side().get(), [true, false, false].as_slice());
-    assert_eq!(rt; point.flow().get(), [4, 4].as_slice());
-    Ok(())
-}
-
-#[test]
-fn one_breakpoint(rt: HostRuntime) -> Result<(), Fail> {
-    let net = three_nodes(rt.alloc())?;
-    let curve = curve_of(rt.alloc(), &net)?;
-    assert_eq!(rt; curve.points().len(), 3);
-    assert_eq!(rt; curve.points()[1].p(), 4);
-    assert_eq!(rt; curve.cut(1), [true, true, false].as_slice());
-    Ok(())
-}
 
 // The network of five nodes and seven arcs, with breakpoints at 10/3 and 5.
 fn five_nodes(alloc: Global) -> Result<Net, Fail>
@@ -96,32 +60,5 @@ fn three_flows_are_carried(rt: HostRuntime) -> Result<(), Fail> {
     let flows = flows_at(rt.alloc(), &mut finder, found.points())?;
     assert_eq!(rt; flows.rows.get().len(), 4);
     assert_eq!(rt; flows.carried, 3);
-    Ok(())
-}
-
-// The first arc falls with the parameter; at 6 both least cuts have the capacity 4.
-fn three_falling_nodes(alloc: Global) -> Result<Net, Fail> {
-    let arcs = [arc(0, 1, 10, -1), arc(1, 2, 4, 0)];
-    Ok(Net::build_falling(alloc, 3, 0, 2, Rat::new(0, 1), Rat::new(10, 1), &arcs)?)
-}
-
-#[test]
-fn one_breakpoint_of_a_falling_network(rt: HostRuntime) -> Result<(), Fail> {
-    let net = three_falling_nodes(rt.alloc())?;
-    let curve = curve_of(rt.alloc(), &net)?;
-    assert_eq!(rt; curve.points().len(), 3);
-    assert_eq!(rt; curve.points()[1].p(), 6);
-    assert_eq!(rt; curve.cut(0), [true, true, false].as_slice());
-    assert_eq!(rt; curve.cut(1), [true, false, false].as_slice());
-    assert_eq!(rt; curve.flow(2), [0, 0].as_slice());
-    Ok(())
-}
-
-#[test]
-fn the_smallest_of_two_least_cuts_of_a_falling_network(rt: HostRuntime) -> Result<(), Fail> {
-    let net = three_falling_nodes(rt.alloc())?;
-    let point = at(rt.alloc(), &net, &Rat::new(6, 1))?;
-    assert_eq!(rt; point.side().get(), [true, false, false].as_slice());
-    assert_eq!(rt; point.flow().get(), [4, 4].as_slice());
     Ok(())
 }

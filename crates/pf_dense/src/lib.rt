@@ -13,8 +13,6 @@ mod dropping;
 pub mod laws;
 mod network;
 mod newton;
-#[cfg(test)]
-mod tests;
 mod text;
 
 pub use check::{check_dense, is_certified, is_certified_dense_text};

@@ -9,8 +9,6 @@ mod group;
 mod lists;
 mod scratch;
 mod table;
-#[cfg(test)]
-mod tests;
 
 pub use error::NoMemory;
 pub use flow::{is_flow, reach, value, visit};

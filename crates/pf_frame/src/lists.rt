@@ -67,22 +67,3 @@ pub type Side = List<bool>;
 
 /// A list of whole numbers, as of a flow: one per arc.
 pub type Numbers = List<i128>;
-
-#[cfg(test)]
-mod tests {
-    use super::*;
-    use std::test::Fail;
-
-    #[test]
-    fn items_are_added_at_the_end(rt: HostRuntime) -> Result<(), Fail> {
-        let mut numbers = Numbers::new(rt.alloc());
-        numbers.push(-3)?;
-        numbers.push(5)?;
-        assert_eq!(rt; numbers.get(), [-3, 5].as_slice());
-        let mut side = Side::from_vec(vec![in rt.alloc(); true; 2]?);
-        side.push(false)?;
-        assert_eq!(rt; side.get(), [true, true, false].as_slice());
-        assert_eq!(rt; side.into_vec().as_slice(), [true, true, false].as_slice());
-        Ok(())
-    }
-}

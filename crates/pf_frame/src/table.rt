@@ -78,33 +78,3 @@ impl FlowTable {
         row.as_mut_slice()
     }
 }
-
-#[cfg(test)]
-mod tests {
-    use super::*;
-    use std::test::Fail;
-
-    #[test]
-    fn only_the_lent_row_changes(rt: HostRuntime) -> Result<(), Fail> {
-        let mut table = FlowTable::make(rt.alloc(), 3, 2)?;
-        assert_eq!(rt; table.rows(), 3);
-        let row = table.row_mut(1);
-        assert_eq!(rt; row.len(), 2);
-        row[0] = 7;
-        assert_eq!(rt; table.row(0), [0, 0].as_slice());
-        assert_eq!(rt; table.row(1), [7, 0].as_slice());
-        assert_eq!(rt; table.row(2), [0, 0].as_slice());
-        Ok(())
-    }
-
-    #[test]
-    fn rows_are_added_at_the_end(rt: HostRuntime) -> Result<(), Fail> {
-        let mut table = FlowTable::new(rt.alloc());
-        table.push(Numbers::from_vec(vec![in rt.alloc(); -5; 2]?))?;
-        table.push(Numbers::new(rt.alloc()))?;
-        assert_eq!(rt; table.rows(), 2);
-        assert_eq!(rt; table.row(0), [-5, -5].as_slice());
-        assert_eq!(rt; table.row(1), [].as_slice());
-        Ok(())
-    }
-}

@@ -12,8 +12,6 @@ mod partition;
 mod reading;
 mod slots;
 mod sums;
-#[cfg(test)]
-mod tests;
 
 pub use graph::{Graph, Task};
 pub use partition::{Partition, Partitions};

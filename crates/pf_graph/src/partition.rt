@@ -100,20 +100,3 @@ fn number(groups: &[u32], labels: &mut [u32]) -> u32
     }
     count
 }
-
-#[cfg(test)]
-mod tests {
-    use super::*;
-    use std::test::Fail;
-
-    #[test]
-    fn labels_follow_the_rule(rt: HostRuntime) -> Result<(), Fail> {
-        let mut partition = Partition::of(rt.alloc(), &[7, 2, 7, 0])?;
-        assert_eq!(rt; partition.labels(), [1, 2, 1, 3].as_slice());
-        assert_eq!(rt; partition.parts(), 3);
-        partition.regroup(&[5, 5, 1, 1]);
-        assert_eq!(rt; partition.labels(), [1, 1, 2, 2].as_slice());
-        assert_eq!(rt; partition.parts(), 2);
-        Ok(())
-    }
-}

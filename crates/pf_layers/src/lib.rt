@@ -7,8 +7,6 @@ mod layers;
 mod numbering;
 mod problem;
 mod solving;
-#[cfg(test)]
-mod tests;
 mod writing;
 
 pub use layers::Layers;

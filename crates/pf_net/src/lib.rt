@@ -9,8 +9,6 @@ mod net;
 mod rules;
 mod setting;
 mod sums;
-#[cfg(test)]
-mod tests;
 
 pub use mirrored::negated;
 pub use net::{Net, NetBad};

@@ -15,8 +15,6 @@ pub mod laws;
 mod outline;
 mod problem;
 mod reading_curve;
-#[cfg(test)]
-mod tests;
 mod writing;
 
 pub use checking::is_certified_text;

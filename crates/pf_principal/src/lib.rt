@@ -12,8 +12,6 @@ mod principal;
 mod rows;
 mod search;
 mod steps;
-#[cfg(test)]
-mod tests;
 mod text;
 
 pub use check::{check_principal, is_certified_partition_text};

@@ -7,8 +7,6 @@ pub mod laws;
 mod link;
 mod marking;
 mod sets;
-#[cfg(test)]
-mod tests;
 mod text;
 
 pub use link::Link;

@@ -7,8 +7,6 @@ pub mod laws;
 mod raising;
 mod reinforcement;
 mod sums;
-#[cfg(test)]
-mod tests;
 mod text;
 
 pub use added::Added;

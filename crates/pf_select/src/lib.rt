@@ -14,8 +14,6 @@ mod outline;
 mod reading;
 mod schedule;
 mod solving;
-#[cfg(test)]
-mod tests;
 mod worth;
 mod writing;
 

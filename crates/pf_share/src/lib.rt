@@ -13,8 +13,6 @@ mod reading;
 mod shares;
 mod sharing;
 mod solving;
-#[cfg(test)]
-mod tests;
 mod weighted;
 mod writing;
 

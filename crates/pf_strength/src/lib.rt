@@ -11,8 +11,6 @@ pub mod laws;
 mod newton;
 mod partition_lines;
 mod strength;
-#[cfg(test)]
-mod tests;
 mod text;
 
 pub use check::{check_strength, is_certified_strength_text};

@@ -1,9 +1,9 @@
-// The network of five nodes and seven arcs, the one of three nodes in a row, and one between two fine parameters.
+// A sweep over the network of five nodes and seven arcs, in units of 1/8.
 ghost use Rattle.std.specs.Prelude.{◌≡◌, ◌<◌, pos, IfOk};
 ghost use Rattle.pf_model.specs.declared.Sense.TheVariants.{Rising};
 ghost use Rattle.pf_sweep.specs.Parameters.{HasNearEnds};
 
-use crate::{Sweep, SweepBad, rows_of};
+use crate::Sweep;
 use pf_net::{AffineArc, Net};
 use pf_rat::Rat;
 use pf_steps::Steps;
@@ -14,14 +14,6 @@ use std::test::Fail;
 
 fn arc(tail: u32, head: u32, a: i64, b: i64) -> AffineArc {
     AffineArc { tail, head, a, b }
-}
-
-fn three_nodes(alloc: Global) -> Result<Net, Fail>
-    ensures near { IfOk result HasNearEnds }
-    ensures rising { IfOk result (λ net. net.sense ≡ Rising) }
-{
-    let arcs = [arc(0, 1, 0, 1), arc(1, 2, 4, 0)];
-    Ok(Net::build(alloc, 3, 0, 2, Rat::new(0, 1), Rat::new(10, 1), &arcs)?)
 }
 
 fn five_nodes(alloc: Global) -> Result<Net, Fail>
@@ -40,20 +32,6 @@ fn five_nodes(alloc: Global) -> Result<Net, Fail>
         arc(2, 4, 3, 0),
     ];
     Ok(Net::build(alloc, 5, 0, 4, Rat::new(0, 1), Rat::new(8, 1), &arcs)?)
-}
-
-fn fine(alloc: Global) -> Result<Net, Fail>
-    ensures { IfOk result HasNearEnds }
-{
-    Ok(Net::build(
-        alloc,
-        2,
-        0,
-        1,
-        Rat::new(1, 1000000),
-        Rat::new(2, 999999),
-        &[],
-    )?)
 }
 
 // The sum of the labels of the inner nodes; the greatest number where there are not five labels.
@@ -129,69 +107,5 @@ fn labels_only_rise(rt: HostRuntime) -> Result<(), Fail> {
     assert!(rt; 0 < seen.after_first);
     assert!(rt; inner_sum(sweep.labels()) <= 27);
     assert_eq!(rt; sweep.value(), 72);
-    Ok(())
-}
-
-#[test]
-fn a_row_is_turned(rt: HostRuntime) -> Result<(), Fail> {
-    let net = five_nodes(rt.alloc())?;
-    let mut sweep = Sweep::make(rt.alloc(), &net, 1)?;
-    let first = sweep.row().turned();
-    assert_eq!(rt; (first.at().p(), first.at().q()), (0, 1));
-    assert_eq!(rt; (first.value(), first.size()), (2, 1));
-    Ok(())
-}
-
-#[test]
-fn rows_of_four_steps(rt: HostRuntime) -> Result<(), Fail> {
-    let net = three_nodes(rt.alloc())?;
-    let rows = rows_of(rt.alloc(), &net, 4)?;
-    let rows = rows.get();
-    assert_eq!(rt; rows.len(), 5);
-    assert_eq!(rt; (rows[1].at().p(), rows[1].at().q()), (5, 2));
-    assert_eq!(rt; (rows[1].value(), rows[1].size()), (5, 1));
-    assert_eq!(rt; (rows[3].value(), rows[3].size()), (8, 2));
-    assert_eq!(rt; (rows[4].at().p(), rows[4].value()), (10, 4));
-    Ok(())
-}
-
-#[test]
-fn two_steps_are_too_fine(rt: HostRuntime) -> Result<(), Fail> {
-    let net = fine(rt.alloc())?;
-    let fine = match rows_of(rt.alloc(), &net, 2) {
-        Ok(_) => false,
-        Err(bad) => bad == SweepBad::TooFine,
-    };
-    assert!(rt; fine);
-    let rows = rows_of(rt.alloc(), &net, 1)?;
-    assert_eq!(rt; (rows.get()[1].at().q(), rows.get()[1].size()), (999999, 1));
-    Ok(())
-}
-
-// Three nodes in a row, of which the first arc shrinks.
-fn falling_nodes(alloc: Global) -> Result<Net, Fail>
-    ensures { IfOk result HasNearEnds }
-{
-    let arcs = [arc(0, 1, 10, -1), arc(1, 2, 4, 0)];
-    Ok(Net::build_falling(alloc, 3, 0, 2, Rat::new(0, 1), Rat::new(10, 1), &arcs)?)
-}
-
-#[test]
-fn rows_of_a_falling_network(rt: HostRuntime) -> Result<(), Fail> {
-    let net = falling_nodes(rt.alloc())?;
-    let rows = rows_of(rt.alloc(), &net, 2)?;
-    let rows = rows.get();
-    assert_eq!(rt;
-        (rows[0].at().p(), rows[0].value(), rows[0].size()),
-        (0, 4, 2)
-    );
-    assert_eq!(rt;
-        (rows[1].at().p(), rows[1].value(), rows[1].size()),
-        (5, 4, 2)
-    );
-    assert_eq!(rt;
-        (rows[2].at().p(), rows[2].value(), rows[2].size()),
-        (10, 0, 1)
-    );
     Ok(())
 }

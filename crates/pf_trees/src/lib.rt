@@ -15,8 +15,6 @@ mod labels;
 pub mod laws;
 mod packing;
 mod search;
-#[cfg(test)]
-mod tests;
 mod trees_of_graph;
 mod writing;
 
