@@ -1,4 +1,5 @@
 pub mod Certificate
+pub mod FirstPiece
 pub mod Parts
 pub mod BestLines
 pub mod Filled

@@ -9,3 +9,5 @@ pub mod Ending
 pub mod Printed
 pub mod SameAnswers
 pub mod Shapes
+pub mod OneAnswer
+pub mod Rivals

@@ -1,6 +1,6 @@
 //! Laws of reinforcements.
 
-ghost use Rattle.pf_reinforce.specs.ReinforcementLaws.{CertificateIsLeast, BlockedIsNotReached, ReinforcementFromText, AnswerHasShape};
+ghost use Rattle.pf_reinforce.specs.ReinforcementLaws.{CertificateIsLeast, BlockedIsNotReached, ReinforcementFromText, AnswerHasShape, CostIsUnique, BlockedIsUnique, AnswersTellTheSame, ReachesByRule, BlockedByRule};
 ghost use Rattle.pf_reinforce.specs.Worked.{TriangleIsCertified, TwoPartsServe, CheapEdgeCrosses, OtherCost, DearEdge, ThresholdLeftOut, EdgeIsCertified, ZeroIsReached, ZeroIsNotBlocked, OnePartBlocksNot, TriangleText, EdgeText, PairsText};
 
 /// The certificate proves that the numbers reach the level, and that none do for less, in whatever unit they are written.
@@ -18,6 +18,21 @@ pub fn blocked_is_not_reached()
 pub fn texts_determine_answers()
     ensures reinforcement { ReinforcementFromText }
     ensures shape { AnswerHasShape }
+{}
+
+/// Two right answers for a graph and a level tell the same level and cost, or the same components: all reinforcements have one
+/// cost, and one partition blocks.
+pub fn answers_are_unique()
+    ensures cost { CostIsUnique }
+    ensures blocked { BlockedIsUnique }
+    ensures same { AnswersTellTheSame }
+{}
+
+/// It is enough to compare with partitions by the label rule: a level that is reached on all of them is reached, and components
+/// that have as many parts as each of them that no edge crosses block the level.
+pub fn rule_is_enough()
+    ensures reaches { ReachesByRule }
+    ensures blocked { BlockedByRule }
 {}
 
 /// Reinforcements worked by hand: certificates of a triangle with two prices, of one edge, and of two vertices without one at

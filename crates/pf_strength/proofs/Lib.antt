@@ -5,3 +5,4 @@ pub mod PartitionLemmas
 pub mod TextLemmas
 pub mod SameAnswers
 pub mod Examples
+pub mod OneStrength

@@ -94,3 +94,31 @@ heavy_answer = record {
 
 abbrev pub HeavyIsCertified : Type 0
 HeavyIsCertified = CertifiesStrength heavy_edge heavy_answer
+
+-- two edges of weight 1 in a row
+abbrev pub row : WeightedGraph
+row = record {
+  nodes = 3;
+  ends = (0, 1) ∷ ((1, 2) ∷ []);
+  weights = pos 1 ∷ (pos 1 ∷ []);
+  costs = pos 1 ∷ (pos 1 ∷ (pos 1 ∷ []));
+  prices = pos 1 ∷ (pos 1 ∷ []);
+}
+
+abbrev pub pair : ℕ → ℕ → List ℤ
+pair a b = pos a ∷ (pos b ∷ [])
+
+abbrev pub row_answer : ℕ → ℕ → StrengthAnswer
+row_answer middle last = record {
+  level = fraction 1 1;
+  parts = three 1 middle last;
+  vector = pair 1 1;
+  splits = pair 0 0 ∷ (pair 1 0 ∷ (pair 1 1 ∷ []));
+}
+
+-- the cut at either edge attains the strength, so the partition is not the only one
+abbrev pub FirstEdgeCuts : Type 0
+FirstEdgeCuts = CertifiesStrength row (row_answer 2 2)
+
+abbrev pub SecondEdgeCuts : Type 0
+SecondEdgeCuts = CertifiesStrength row (row_answer 1 2)

@@ -1,7 +1,7 @@
 //! Laws of the strength.
 
-ghost use Rattle.pf_strength.specs.StrengthLaws.{CertificateIsStrength, StrengthFromText, CertifiedIsRight};
-ghost use Rattle.pf_strength.specs.Worked.{TriangleIsCertified, TriangleText, RaisedPastWeight, ChargedRoot, LoosePart, PairsAreCertified, OnePart, HeavyIsCertified};
+ghost use Rattle.pf_strength.specs.StrengthLaws.{CertificateIsStrength, StrengthFromText, CertifiedIsRight, StrengthIsUnique, LevelIsUnique};
+ghost use Rattle.pf_strength.specs.Worked.{TriangleIsCertified, TriangleText, RaisedPastWeight, ChargedRoot, LoosePart, PairsAreCertified, OnePart, HeavyIsCertified, FirstEdgeCuts, SecondEdgeCuts};
 
 /// The certificate proves that the level is the strength: no partition into at least two parts has a smaller ratio.
 pub fn certificate_is_strength()
@@ -13,6 +13,15 @@ pub fn certificate_is_strength()
 pub fn texts_determine_answers()
     ensures strength { StrengthFromText }
     ensures certified { CertifiedIsRight }
+{}
+
+/// A graph has one strength, whichever partitions attain it, so two right answers have the same level. Their partitions may differ: in a
+/// row of two edges of one weight both cuts attain it.
+pub fn strength_is_unique()
+    ensures strength { StrengthIsUnique }
+    ensures level { LevelIsUnique }
+    ensures first { FirstEdgeCuts }
+    ensures second { SecondEdgeCuts }
 {}
 
 /// Strengths worked by hand: certificates of a triangle, of two edges that are not connected and of one edge of the greatest

@@ -10,4 +10,5 @@ pub mod Touching
 pub mod Sweeping
 pub mod TurnedRows
 pub mod SameRows
+pub mod OneSweep
 mod WorkedRows

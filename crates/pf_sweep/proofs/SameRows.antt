@@ -32,10 +32,10 @@ fraction_digits x s =
 size_digits : (n : ℕ) → n ≤ 2 ^ 13 → n < 10 ^ 64
 size_digits n small = omega (arith, small)
 
-abbrev row_of : ℤ → ℤ → ℤ → ℕ → Row
+abbrev pub row_of : ℤ → ℤ → ℤ → ℕ → Row
 row_of p q value size = record { at = record { p = p; q = q }; value = value; size = size }
 
-row_of_parts : (p p' q q' value value' : ℤ) (size size' : ℕ) → p ≡ p' → q ≡ q' → value ≡ value' → size ≡ size' → row_of p q value size ≡ row_of p' q' value' size'
+pub row_of_parts : (p p' q q' value value' : ℤ) (size size' : ℕ) → p ≡ p' → q ≡ q' → value ≡ value' → size ≡ size' → row_of p q value size ≡ row_of p' q' value' size'
 row_of_parts p p' q q' value value' size size' d e f g = cc
 
 -- ---- lines

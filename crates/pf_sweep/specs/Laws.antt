@@ -6,7 +6,7 @@ use Rattle.pf_model.specs.Answer.{Row, IsRowShape}
 use Rattle.pf_model.specs.Mirror.{negative, mirror}
 use Rattle.pf_sweep.specs.Swept.{Swept, IsSettled, IsAdvanced, IsRaised}
 use Rattle.pf_sweep.specs.Rows.{IsRightRow, AreRows, turned_row}
-use Rattle.pf_sweep.specs.Text.{sweep_text}
+use Rattle.pf_sweep.specs.Text.{sweep_text, IsRightSweep}
 
 -- a sweep, and a counter beside it
 pub record Counted : Type 0 where
@@ -40,3 +40,10 @@ RowOfMirror = (net : Network) (x : Fraction) (row : Row) → IsRightRow net x ro
 -- the rows of k equal steps, turned and in reverse order, are those of the mirror
 abbrev pub RowsOfMirror : Type 0
 RowsOfMirror = (net : Network) (k : ℕ) (rows : List Row) → IsMonotone net → 1 ≤ k → AreRows net k rows → AreRows (mirror net) k (reverse (map turned_row rows))
+
+-- there is one list of rows, and so one right text
+abbrev pub RowsAreUnique : Type 0
+RowsAreUnique = (net : Network) (k : ℕ) (a b : List Row) → AreRows net k a → AreRows net k b → a ≡ b
+
+abbrev pub SweepIsUnique : Type 0
+SweepIsUnique = (k : ℕ) (net : Network) (text other : List ℕ) → IsRightSweep k net text → IsRightSweep k net other → text ≡ other

@@ -1,5 +1,5 @@
 // Laws about the definitions: each is the contract of a function that does nothing.
-ghost use Rattle.pf_sweep.specs.Laws.{FewRelabellings, RowsFromText, RowOfMirror, RowsOfMirror};
+ghost use Rattle.pf_sweep.specs.Laws.{FewRelabellings, RowsFromText, RowOfMirror, RowsOfMirror, RowsAreUnique, SweepIsUnique};
 
 /// Over any list of steps of one sweep no label falls, and there are at most `(n - 2)(2n - 1)` relabellings, whatever the number of
 /// parameters. `n` is the number of nodes.
@@ -17,4 +17,10 @@ pub fn texts_determine_rows()
 pub fn rows_of_mirror()
     ensures one { RowOfMirror }
     ensures all { RowsOfMirror }
+{}
+
+/// There is one list of right rows for each network and number of steps, and one right text.
+pub fn rows_are_unique()
+    ensures rows { RowsAreUnique }
+    ensures text { SweepIsUnique }
 {}

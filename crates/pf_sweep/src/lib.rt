@@ -12,7 +12,7 @@ mod tests;
 mod turning;
 mod writing;
 
-pub use laws::{few_relabellings, rows_of_mirror, texts_determine_rows};
+pub use laws::{few_relabellings, rows_are_unique, rows_of_mirror, texts_determine_rows};
 pub use pf_carry::carry;
 pub use rows::{Rows, rows_of};
 pub use sweep::{Sweep, SweepBad, SweepRow};

@@ -15,3 +15,4 @@ pub mod Whole
 pub mod WorkedOut
 pub mod TextRows
 pub mod SameAnswers
+pub mod Rivals

@@ -1,6 +1,6 @@
 //! Laws of trees and partitions and of their texts, and graphs worked by hand. Each is the contract of a function that does nothing.
 
-ghost use Rattle.pf_trees.specs.Laws.{NotBoth, TreesFromText};
+ghost use Rattle.pf_trees.specs.Laws.{NotBoth, TreesFromText, SpanningByRule};
 ghost use Rattle.pf_trees.specs.Worked.{AreTwoTrees, FirstTree, SecondTree, CircleIsNoTree, SixCross, FourParts, ThreeTreesBlocked, TriangleBlocked, TwoPartsLetThrough, PairIsTwoTrees, PairIsNotThree};
 
 /// A graph has not both `k` spanning trees without a common edge and a partition that blocks them.
@@ -12,6 +12,11 @@ pub fn not_both()
 /// and of none with another number or another label.
 pub fn texts_determine_answers()
     ensures { TreesFromText }
+{}
+
+/// To see that edges are a spanning tree it is enough to look at partitions by the label rule.
+pub fn rule_is_enough()
+    ensures { SpanningByRule }
 {}
 
 /// All edges between four vertices: two trees, and no three.
