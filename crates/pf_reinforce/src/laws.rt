@@ -22,7 +22,7 @@ pub fn texts_determine_answers()
 
 /// Two right answers for a graph and a level tell the same level, cost and prices that occur, or the same components: all
 /// reinforcements have one cost, and one partition blocks.
-pub fn answers_are_unique()
+pub fn cost_is_unique()
     ensures cost { CostIsUnique }
     ensures blocked { BlockedIsUnique }
     ensures same { AnswersTellTheSame }
