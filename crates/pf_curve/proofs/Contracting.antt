@@ -37,7 +37,7 @@ pub smallest_found : (part : Between) (net : Network) (x : Fraction) (side lifte
     IsSmallestLeast (network_at (piece_of part) x) side → IsLift part side lifted → IsSmallestLeast (network_at part.net x) lifted
 smallest_found part net x side lifted b e rising ends s lift =
     let built = subst IsBuilt e b in
-    smallest_lifts part x side lifted built.monotone rising ends s lift
+    smallest_lifts part x side lifted built.monotone (ends_are_nested part x built.monotone rising ends) ends s lift
 
 pub nested_ends : (net : Network) (small large : List Bool) (x : Fraction) → IsBuilt net → net.sense ≡ Rising → AreEndsAt (whole net small large) x →
     AreNested net small large

@@ -10,6 +10,7 @@ pub mod Marks
 pub mod Raise
 pub mod Splits
 pub mod Law
+pub mod Sharing
 pub mod Filling
 pub mod Standing
 pub mod Bounds

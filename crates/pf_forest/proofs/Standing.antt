@@ -16,11 +16,12 @@ use Rattle.pf_graph.proofs.ByRule.{same_parts, same_crossing}
 use Rattle.pf_graph.proofs.Counting.{finer_parts, parts_most}
 use Rattle.pf_graph.proofs.Levels.{singles, length_singles, parts_singles}
 use Rattle.pf_forest.specs.Held.{tail_of, head_of}
-use Rattle.pf_forest.specs.Forest.{IsInRange, MeetsTotal, KeepsForest, IsFilled}
+use Rattle.pf_forest.specs.Forest.{IsInRange, MeetsTotal, HasForest, KeepsForest, IsFilled}
 use Rattle.pf_forest.specs.Filling.{IsForest, CrossingAreFull, AreWithinGoals, IsGoals, AreGoalsOf, IsRaised, IsStanding, IsStandingAt, IsWhole, level_of}
 use Rattle.pf_forest.specs.declared.workspace.Workspace.{Workspace}
 use Rattle.pf_forest.proofs.Filling.{forest_starts}
 use Rattle.pf_forest.proofs.Law.{full_sum, scaled_crossing, best_of_sum}
+use Rattle.pf_forest.proofs.Sharing.{sparse_has_splits}
 
 -- an edge that crosses after one was raised crossed before
 pub crossing_stays : (g : Digraph) (goals old new : List ℤ) (groups joined : List ℕ) (e : ℕ) (goal : ℤ) → IsDigraph g → IsRaised g old groups new joined e goal →
@@ -73,6 +74,21 @@ keeps_of g x goals vector heads rooms groups labels graph s at_level = record {
   sum = total_of g x goals vector heads rooms groups labels graph s at_level;
 }
 
+-- the forest condition holds with some splits
+forest_of : (g : WeightedGraph) (x : Fraction) (vector : List ℤ) (labels : List ℕ) → IsWeightedGraph g → KeepsForest g x vector labels → IsInRange g x vector →
+    HasForest g x vector labels
+forest_of g x vector labels graph k range = record {
+  splits = λ r. (sparse_has_splits (digraph_of g) x.p vector r graph.graph k.level k.full k.low k.sparse).shares;
+  meets = record {
+    parameter = k.parameter;
+    level = k.level;
+    labels_full = k.partition.full;
+    range = range;
+    splits_are = λ r low. (sparse_has_splits (digraph_of g) x.p vector r graph.graph k.level k.full k.low k.sparse).split;
+    sum = k.sum;
+  };
+}
+
 pub filled_of : (g : WeightedGraph) (x : Fraction) (goals vector heads rooms : List ℤ) (groups labels : List ℕ) → IsWeightedGraph g →
     IsStanding g x.p vector heads rooms groups labels → IsStandingAt g x goals vector groups → AreWithinGoals (digraph_of g) goals vector → IsFilled g x vector labels
 filled_of g x goals vector heads rooms groups labels graph s at_level within =
@@ -85,6 +101,7 @@ filled_of g x goals vector heads rooms groups labels graph s at_level within =
     record {
       keeps = k;
       range = range;
+      forest = forest_of g x vector labels graph k range;
       best = best_of_sum g x vector labels graph.graph k.partition.full k.sparse range k.sum;
     }
 

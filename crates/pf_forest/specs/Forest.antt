@@ -58,6 +58,11 @@ pub record MeetsForest (g : WeightedGraph) (x : Fraction) (vector : List ℤ) (s
   pub splits_are : (r : ℕ) → r < g.nodes → IsSplit (digraph_of g) x.p vector (splits r) r
   pub sum : MeetsTotal g x vector labels
 
+-- it holds with some splits
+pub record HasForest (g : WeightedGraph) (x : Fraction) (vector : List ℤ) (labels : List ℕ) : Type 0 where
+  pub splits : ℕ → List ℤ
+  pub meets : MeetsForest g x vector splits labels
+
 -- What a forest keeps from one call to the next, once it is filled at a level: no set of vertices holds too much, and the sum is that of its partition.
 pub record KeepsForest (g : WeightedGraph) (x : Fraction) (vector : List ℤ) (labels : List ℕ) : Type 0 where
   pub parameter : IsParameter x
@@ -68,10 +73,11 @@ pub record KeepsForest (g : WeightedGraph) (x : Fraction) (vector : List ℤ) (l
   pub sparse : IsSparse (digraph_of g) x.p vector
   pub sum : MeetsTotal g x vector labels
 
--- what `fill` leaves: besides, no edge has more than its weight, and no partition is better at the level
+-- what `fill` leaves: besides, no edge has more than its weight, the forest condition holds, and no partition is better at the level
 pub record IsFilled (g : WeightedGraph) (x : Fraction) (vector : List ℤ) (labels : List ℕ) : Type 0 where
   pub keeps : KeepsForest g x vector labels
   pub range : IsInRange g x vector
+  pub forest : HasForest g x vector labels
   pub best : IsBest g x labels
 
 abbrev pub no_level : Option Fraction

@@ -182,8 +182,8 @@ impl<'g> Forest<'g> {
     }
 
     /// Fills the vector at the level `P/Q`: each edge is raised towards its weight as far as no set of vertices holds too much.
-    /// Then the vector is from 0 to the weights in units of `1/Q`, its sum is `Q crossing + P (vertices - parts)`, and no
-    /// partition is better at the level than the one that it leaves. What went before has no effect.
+    /// Then the vector is from 0 to the weights in units of `1/Q`, its sum is `Q crossing + P (vertices - parts)`, it has a split
+    /// for each root, and no partition is better at the level than the one that it leaves. What went before has no effect.
     pub fn fill(&mut self, level: &Rat)
         requires { pos 0 ≤ℤ level.now.p }
         ensures graph { self.new.graph ≡ self.old.graph }

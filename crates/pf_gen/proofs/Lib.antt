@@ -4,3 +4,4 @@ pub mod Accepted
 pub mod DrawnArcs
 pub mod SummaryLemmas
 pub mod SameAnswers
+pub mod OneSummary

@@ -63,10 +63,10 @@ lines_plain s = (
 abbrev field_at : ℕ → List (List (List ℕ)) → List ℕ
 field_at i lines = get_or (get_or lines 1 []) i []
 
-abbrev summary_of : ℕ → ℕ → ℕ → ℤ → ℤ → Summary
+abbrev pub summary_of : ℕ → ℕ → ℕ → ℤ → ℤ → Summary
 summary_of nodes arcs segments low high = record { nodes = nodes; arcs = arcs; segments = segments; low_value = low; high_value = high }
 
-same_parts : (n n' m m' k k' : ℕ) (x x' y y' : ℤ) → n ≡ n' → m ≡ m' → k ≡ k' → x ≡ x' → y ≡ y' → summary_of n m k x y ≡ summary_of n' m' k' x' y'
+pub same_parts : (n n' m m' k k' : ℕ) (x x' y y' : ℤ) → n ≡ n' → m ≡ m' → k ≡ k' → x ≡ x' → y ≡ y' → summary_of n m k x y ≡ summary_of n' m' k' x' y'
 same_parts n n' m m' k k' x x' y y' d e f g h = cc
 
 pub summary_from_text : SummaryFromText

@@ -1,6 +1,6 @@
 //! What holds of every generated text and of every summary: each law is the contract of a function that does nothing.
 
-ghost use Rattle.pf_gen.specs.Laws.{GeneratedIsAccepted, NetworkFromText, SummaryFromText};
+ghost use Rattle.pf_gen.specs.Laws.{GeneratedIsAccepted, NetworkFromText, SummaryFromText, SummaryIsUnique, SummaryTextIsUnique};
 
 /// Every text of a network that is drawn with 3 to 1000 nodes and at most 10000 arcs is accepted as a text of the kind `par`,
 /// gives this network, and has nothing after its line `end`.
@@ -13,4 +13,10 @@ pub fn generated_texts_are_accepted()
 pub fn texts_determine_answers()
     ensures network { NetworkFromText }
     ensures summary { SummaryFromText }
+{}
+
+/// There is one summary of each monotone network, and for each seed, with 3 to 1000 nodes and at most 10000 arcs, one right text.
+pub fn summary_is_unique()
+    ensures summary { SummaryIsUnique }
+    ensures text { SummaryTextIsUnique }
 {}

@@ -58,11 +58,11 @@ abbrev pub CertifiedIsRight : Type 0
 CertifiedIsRight = (net : Network) (text : List ℕ) → IsMonotone net → IsCertifiedCurve net text ↔ IsRightCurve net text
 
 -- two right answers to `at` have the same parameter and the same cut
-abbrev pub PointIsUnique : Type 0
-PointIsUnique = (x : Fraction) (net : Network) (text other : List ℕ) (a : IsRightPoint x net text) (b : IsRightPoint x net other) →
+abbrev pub CutOfPointIsUnique : Type 0
+CutOfPointIsUnique = (x : Fraction) (net : Network) (text other : List ℕ) (a : IsRightPoint x net text) (b : IsRightPoint x net other) →
     (a.point.at ≡ b.point.at) × (a.point.side ≡ b.point.side)
 
 -- two right answers to `curve` have the same points and the same cuts
-abbrev pub CurveIsUnique : Type 0
-CurveIsUnique = (net : Network) (text other : List ℕ) (a : IsRightCurve net text) (b : IsRightCurve net other) → IsMonotone net →
+abbrev pub CutsOfCurveAreUnique : Type 0
+CutsOfCurveAreUnique = (net : Network) (text other : List ℕ) (a : IsRightCurve net text) (b : IsRightCurve net other) → IsMonotone net →
     (a.curve.points ≡ b.curve.points) × (a.curve.cuts ≡ b.curve.cuts)

@@ -1,6 +1,6 @@
 //! What holds of every text of a network, and of its answers: each law is the contract of a function that does nothing.
 
-ghost use Rattle.pf_par.specs.Laws.{AcceptedIsMonotone, AcceptedIsTextNetwork, PointFromText, CurveFromText, VerdictIsUnique, CertifiedIsRight, PointIsUnique, CurveIsUnique};
+ghost use Rattle.pf_par.specs.Laws.{AcceptedIsMonotone, AcceptedIsTextNetwork, PointFromText, CurveFromText, VerdictIsUnique, CertifiedIsRight, CutOfPointIsUnique, CutsOfCurveAreUnique};
 
 /// A text of the kind `par` that is accepted gives a monotone network within the limits of texts: 2 to 1000 nodes, at most
 /// 10000 arcs, coefficients and the two numbers of each end of the interval at most 1000000000 in size, and these ends in
@@ -27,7 +27,7 @@ pub fn certified_texts_are_right_answers()
 {}
 
 /// All but the flows is the same in two right answers: the parameter and the cut at one parameter; the points and the cuts of a curve.
-pub fn answers_are_unique()
-    ensures point { PointIsUnique }
-    ensures curve { CurveIsUnique }
+pub fn cuts_are_unique()
+    ensures point { CutOfPointIsUnique }
+    ensures curve { CutsOfCurveAreUnique }
 {}

@@ -1,16 +1,19 @@
 -- The smallest least cut of a piece between two smallest least cuts is the network's.
-use Rattle.std.proofs.Common.{◌≡◌, List, Bool, map, refl, arith, ap, sym, ◌∙◌}
+use Rattle.std.proofs.Common.{◌≡◌, List, Bool, map, refl, arith, ap, sym, ◌∙◌, inl, inr, subst}
 use Rattle.std.specs.Prelude.{ℤ, ◌+ℤ◌}
 use Rattle.std.proofs.lemmas.Int.{ints}
-use Rattle.pf_model.specs.declared.Sense.TheVariants.{Rising}
+use Rattle.pf_model.specs.declared.Sense.TheVariants.{Rising, Falling}
 use Rattle.pf_model.specs.Fraction.{Fraction}
 use Rattle.pf_model.specs.Cut.{FlowNetwork, IsCut, IsLeast, IsSmallestLeast, IsContained, sum_where, has, capacity}
 use Rattle.pf_model.specs.Network.{Network, IsMonotone, IsInInterval, IsNetworkCut, network_at, capacity_at, ends_of}
 use Rattle.pf_model.proofs.Affine.{nested, proper_at}
-use Rattle.pf_model.proofs.Certificate.{at_most_trans, cut_at_point}
+use Rattle.pf_model.proofs.Certificate.{at_most_trans, cut_at_point, least_between}
 use Rattle.pf_model.proofs.Exists.{greatest_exists}
+use Rattle.pf_model.proofs.Nesting.{nested_falling}
+use Rattle.pf_model.proofs.Unique.{same_sides}
+use Rattle.pf_model.proofs.Whole.{sense_cases}
 use Rattle.pf_piece.specs.Piece.{Between, AreNested, IsLift, place, piece_of, core_of}
-use Rattle.pf_piece.specs.Laws.{AreEndsAt}
+use Rattle.pf_piece.specs.Laws.{AreEndsAt, IsCutBetween}
 use Rattle.pf_piece.proofs.Lifts.{across, capacity_lifts, core_lists, lift_each, lift_is_between}
 use Rattle.pf_piece.proofs.Choice.{between_is_lift}
 
@@ -34,16 +37,54 @@ ends_are_nested part x m rising ends =
       contained = nested part.net ends.left ends.right part.small part.large m rising ends.left_inside ends.right_inside order ends.small_least ends.large_least.least;
     }
 
-pub smallest_lifts : (part : Between) (x : Fraction) (side whole : List Bool) → IsMonotone part.net → part.net.sense ≡ Rising → AreEndsAt part x →
-    IsSmallestLeast (network_at (piece_of part) x) side → IsLift part side whole → IsSmallestLeast (network_at part.net x) whole
-smallest_lifts part x side whole m rising ends s lift =
-    let nests = ends_are_nested part x m rising ends in
+-- in a falling network the cut at the greater parameter is contained in the other, so nested ones are equal
+pub falling_ends_are_equal : (part : Between) (x : Fraction) → IsMonotone part.net → part.net.sense ≡ Falling → AreNested part.net part.small part.large →
+    AreEndsAt part x → part.small ≡ part.large
+falling_ends_are_equal part x m falling nests ends =
+    let order = at_most_trans ends.left x ends.right ends.left_inside.parameter ends.parameter ends.right_inside.parameter ends.from_left ends.to_right in
+    same_sides part.small part.large (nests.small_cut.full ∙ sym nests.large_cut.full) nests.contained
+    (nested_falling part.net ends.left ends.right part.small part.large m falling ends.left_inside ends.right_inside order ends.small_least.least ends.large_least)
+
+-- the smallest least cut at x lies between the two sides
+between_rising : (part : Between) (x : Fraction) (side : List Bool) → IsMonotone part.net → part.net.sense ≡ Rising → AreEndsAt part x →
+    IsSmallestLeast (network_at part.net x) side → IsCutBetween part side
+between_rising part x side m rising ends best =
     let here = inside_at part x m ends in
-    let solved = greatest_exists (network_at part.net x) (proper_at part.net x m here) in
+    record {
+      cut = network_cut part.net x side best.least.cut;
+      above = nested part.net ends.left x part.small side m rising ends.left_inside here ends.from_left ends.small_least best.least;
+      below = nested part.net x ends.right side part.large m rising here ends.right_inside ends.to_right best ends.large_least.least;
+    }
+
+-- in a falling network it is the one side that both are
+between_falling : (part : Between) (x : Fraction) (side : List Bool) → IsMonotone part.net → part.net.sense ≡ Falling → AreNested part.net part.small part.large →
+    AreEndsAt part x → IsSmallestLeast (network_at part.net x) side → IsCutBetween part side
+between_falling part x side m falling nests ends best =
+    let here = inside_at part x m ends in
+    let same = falling_ends_are_equal part x m falling nests ends in
+    let P : List Bool → Type 0 = λ cut. IsLeast (network_at part.net ends.left) cut in
+    let large_least = least_between part.net ends.left x ends.right part.large ends.left_inside.parameter ends.parameter ends.right_inside.parameter ends.from_left ends.to_right
+    (subst P same ends.small_least.least) ends.large_least.least in
+    let above = nested_falling part.net x ends.right side part.large m falling here ends.right_inside ends.to_right best.least ends.large_least in
+    record {
+      cut = network_cut part.net x side best.least.cut;
+      above = λ v e. above v (ap (λ cut. has cut v) (sym same) ∙ e);
+      below = best.smallest part.large large_least;
+    }
+
+smallest_between : (part : Between) (x : Fraction) (side : List Bool) → IsMonotone part.net → AreNested part.net part.small part.large → AreEndsAt part x →
+    IsSmallestLeast (network_at part.net x) side → IsCutBetween part side
+smallest_between part x side m nests ends best = elim (sense_cases part.net.sense) [
+  | inl rising ↦ between_rising part x side m rising ends best
+  | inr falling ↦ between_falling part x side m falling nests ends best
+]
+
+pub smallest_lifts : (part : Between) (x : Fraction) (side whole : List Bool) → IsMonotone part.net → AreNested part.net part.small part.large → AreEndsAt part x →
+    IsSmallestLeast (network_at (piece_of part) x) side → IsLift part side whole → IsSmallestLeast (network_at part.net x) whole
+smallest_lifts part x side whole m nests ends s lift =
+    let solved = greatest_exists (network_at part.net x) (proper_at part.net x m (inside_at part x m ends)) in
     let best = solved.smallest in
-    let above = nested part.net ends.left x part.small solved.side m rising ends.left_inside here ends.from_left ends.small_least best.least in
-    let below = nested part.net x ends.right solved.side part.large m rising here ends.right_inside ends.to_right best ends.large_least.least in
-    let one = between_is_lift part solved.side nests (record { cut = network_cut part.net x solved.side best.least.cut; above = above; below = below }) in
+    let one = between_is_lift part solved.side nests (smallest_between part x solved.side m nests ends best) in
     let cut = network_cut (piece_of part) x side s.least.cut in
     let mine = capacity_lifts part x side whole nests cut lift in
     let theirs = capacity_lifts part x one.side solved.side nests one.cut one.lift in

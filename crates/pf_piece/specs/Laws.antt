@@ -1,6 +1,6 @@
 -- What a piece of a network tells of the network.
 use Rattle.std.specs.Prelude.{◌≡◌, Bool, List}
-use Rattle.pf_model.specs.declared.Sense.TheVariants.{Rising}
+use Rattle.pf_model.specs.declared.Sense.TheVariants.{Rising, Falling}
 use Rattle.pf_model.specs.Fraction.{Fraction, IsParameter, IsAtMost}
 use Rattle.pf_model.specs.Cut.{IsSmallestLeast, IsContained, capacity}
 use Rattle.pf_model.specs.Network.{IsMonotone, IsInInterval, IsNetworkCut, network_at, line_of}
@@ -49,14 +49,19 @@ pub record AreEndsAt (part : Between) (x : Fraction) : Type 0 where
   pub small_least : IsSmallestLeast (network_at part.net left) part.small
   pub large_least : IsSmallestLeast (network_at part.net right) part.large
 
--- they are nested then
+-- in a rising network they are nested then
 abbrev pub EndsAreNested : Type 0
 EndsAreNested = (part : Between) (x : Fraction) → IsMonotone part.net → part.net.sense ≡ Rising → AreEndsAt part x →
     AreNested part.net part.small part.large
 
--- and the lift of the piece's smallest least cut at x is the network's
+-- in a falling one they are nested only if they are equal
+abbrev pub FallingEndsAreEqual : Type 0
+FallingEndsAreEqual = (part : Between) (x : Fraction) → IsMonotone part.net → part.net.sense ≡ Falling → AreNested part.net part.small part.large →
+    AreEndsAt part x → part.small ≡ part.large
+
+-- where they are nested, the lift of the piece's smallest least cut at x is the network's
 abbrev pub SmallestLifts : Type 0
-SmallestLifts = (part : Between) (x : Fraction) (side whole : List Bool) → IsMonotone part.net → part.net.sense ≡ Rising → AreEndsAt part x →
+SmallestLifts = (part : Between) (x : Fraction) (side whole : List Bool) → IsMonotone part.net → AreNested part.net part.small part.large → AreEndsAt part x →
     IsSmallestLeast (network_at (piece_of part) x) side → IsLift part side whole → IsSmallestLeast (network_at part.net x) whole
 
 -- the arcs between the piece's source and its sink add the same to each cut, so the piece without them has the same smallest least cut

@@ -1,6 +1,6 @@
 //! What a piece of a network tells of the network. Each law is the contract of a function that does nothing.
 
-ghost use Rattle.pf_piece.specs.Laws.{CapacityLifts, LineLifts, LiftIsBetween, BetweenIsLift, EndsAreNested, SmallestLifts, CoreHasSmallest, CoreIsBuilt};
+ghost use Rattle.pf_piece.specs.Laws.{CapacityLifts, LineLifts, LiftIsBetween, BetweenIsLift, EndsAreNested, FallingEndsAreEqual, SmallestLifts, CoreHasSmallest, CoreIsBuilt};
 
 /// The capacity of a cut of the piece is that of its lift, at every parameter.
 pub fn capacity_lifts()
@@ -14,9 +14,11 @@ pub fn lifts_are_cuts_between()
     ensures lift { BetweenIsLift }
 {}
 
-/// Between the smallest least cuts at two parameters, the piece's smallest least cut lifts to the network's.
+/// Between the smallest least cuts at two parameters, of which the one at the lower parameter is contained in the other, the piece's
+/// smallest least cut lifts to the network's. In a rising network they are so; in a falling one only if they are equal.
 pub fn smallest_lifts()
     ensures nested { EndsAreNested }
+    ensures equal { FallingEndsAreEqual }
     ensures lifts { SmallestLifts }
 {}
 

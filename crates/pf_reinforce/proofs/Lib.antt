@@ -9,5 +9,6 @@ pub mod Ending
 pub mod Printed
 pub mod SameAnswers
 pub mod Shapes
+pub mod OneThresholds
 pub mod OneAnswer
 pub mod Rivals

@@ -20,6 +20,7 @@ use Rattle.pf_reinforce.specs.Answer.{Answers}
 use Rattle.pf_reinforce.specs.ReinforcementLaws.{TellTheSame}
 use Rattle.pf_reinforce.proofs.Certificate.{blocked_is_not_reached}
 use Rattle.pf_reinforce.proofs.Connected.{AreComponents}
+use Rattle.pf_reinforce.proofs.OneThresholds.{one_list_of_thresholds}
 
 -- no reinforcement costs more than another
 at_most_cost : (g : WeightedGraph) (x : Fraction) (a b : List ℤ) → IsReinforcement g x a → IsReinforcement g x b →
@@ -124,8 +125,11 @@ one_blocked g x d r graph a b =
 -- ---- both kinds of answers
 
 pub answers_tell_the_same : (g : WeightedGraph) (x : Fraction) (a b : Reinforcement) → IsWeightedGraph g → Answers g x a → Answers g x b → TellTheSame a b
-answers_tell_the_same g x (Added a) (Added b) graph h k =
-    (h.level_is ∙ sym k.level_is, h.certificate.cost_is ∙ one_cost g x a.added b.added h.least k.least ∙ sym k.certificate.cost_is)
+answers_tell_the_same g x (Added a) (Added b) graph h k = record {
+  level = h.level_is ∙ sym k.level_is;
+  cost = h.certificate.cost_is ∙ one_cost g x a.added b.added h.least k.least ∙ sym k.certificate.cost_is;
+  thresholds = one_list_of_thresholds g.prices a.thresholds b.thresholds h.certificate.thresholds_are k.certificate.thresholds_are;
+}
 answers_tell_the_same g x (Added a) (Blocked r) graph h k = blocked_is_not_reached g x r 1 a.added graph (omega arith) k h.least.reaches
 answers_tell_the_same g x (Blocked d) (Added b) graph h k = blocked_is_not_reached g x d 1 b.added graph (omega arith) h k.least.reaches
 answers_tell_the_same g x (Blocked d) (Blocked r) graph h k = one_blocked g x d r graph h k

@@ -40,9 +40,15 @@ CostIsUnique = (g : WeightedGraph) (x : Fraction) (a b : List ℤ) → IsReinfor
 abbrev pub BlockedIsUnique : Type 0
 BlockedIsUnique = (g : WeightedGraph) (x : Fraction) (d r : List ℕ) → IsWeightedGraph g → IsBlocked g x d → IsBlocked g x r → d ≡ r
 
--- the same level and the same cost, or the same components
+-- one level, one cost, and one list of the prices that occur
+pub record HasSameNumbers (a b : AddedAnswer) : Type 0 where
+  pub level : a.level ≡ b.level
+  pub cost : a.cost ≡ b.cost
+  pub thresholds : a.thresholds ≡ b.thresholds
+
+-- these, or the same components
 abbrev pub TellTheSame : Reinforcement → Reinforcement → Type 0
-TellTheSame (Added a) (Added b) = (a.level ≡ b.level) × (a.cost ≡ b.cost)
+TellTheSame (Added a) (Added b) = HasSameNumbers a b
 TellTheSame (Blocked d) (Blocked r) = d ≡ r
 TellTheSame a b = ⊥
 

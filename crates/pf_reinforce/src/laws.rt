@@ -20,9 +20,9 @@ pub fn texts_determine_answers()
     ensures shape { AnswerHasShape }
 {}
 
-/// Two right answers for a graph and a level tell the same level and cost, or the same components: all reinforcements have one
-/// cost, and one partition blocks.
-pub fn answers_are_unique()
+/// Two right answers for a graph and a level tell the same level, cost and prices that occur, or the same components: all
+/// reinforcements have one cost, and one partition blocks.
+pub fn cost_is_unique()
     ensures cost { CostIsUnique }
     ensures blocked { BlockedIsUnique }
     ensures same { AnswersTellTheSame }

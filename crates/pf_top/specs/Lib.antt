@@ -4,3 +4,4 @@ pub mod Words
 pub mod Messages
 pub mod Answering
 pub mod Running
+pub mod Laws

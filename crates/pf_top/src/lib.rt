@@ -9,6 +9,7 @@
 mod commands;
 mod divisible;
 mod job;
+pub mod laws;
 mod messages;
 mod running;
 mod status;
