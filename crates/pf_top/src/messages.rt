@@ -114,15 +114,17 @@ fn say<E: Sink>(err: &mut E, status: Status) -> Result<(), Failed>
     printer.finish()
 }
 
-/// Writes the line of a status that has one. A fault of the sink is passed over.
-pub fn tell<E: Sink>(status: Status, err: &mut E)
+/// Writes the line of a status that has one, and hands the status back. A fault of the sink is passed over.
+pub fn tell<E: Sink>(status: Status, err: &mut E) -> Status
+    ensures same { result ≡ status }
     ensures line { ErrAfter E.Sink err.old err.new status }
     ensures count { E.faults err.old ≤ E.faults err.new }
 {
     match status {
-        Status::Done | Status::No => {}
+        Status::Done | Status::No => status,
         other => {
             let _ = say(err, other);
+            other
         }
     }
 }

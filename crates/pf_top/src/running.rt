@@ -104,6 +104,23 @@ fn obey<S: Source, O: Sink>(alloc: Global, request: &Request, source: &mut S, ou
     }
 }
 
+// The run up to its status. The sink of messages is not lent to it, so no fault of that sink can change the status, or what the
+// source gave and `out` took.
+fn decide<S: Source, O: Sink>(
+    alloc: Global,
+    words: &[String],
+    source: &mut S,
+    out: &mut O,
+) -> Status
+    ensures usage { (result ≡ Status.Usage) ↔ (command_of (word_bytes words.now) ≡ None) }
+    ensures run { IsRun S.Source source.old source.new O.Sink out.old out.new (word_bytes words.now) result }
+{
+    match read_words(words) {
+        None => Status::Usage,
+        Some(request) => obey(alloc, &request, source, out),
+    }
+}
+
 /// Runs the command of the words on all that the source has left. The answer goes to `out`, or a line to `err` says why
 /// there is none. The answer is made whole before its first byte goes out. `generate` reads nothing, and leaves the source as
 /// it was.
@@ -116,7 +133,8 @@ fn obey<S: Source, O: Sink>(alloc: Global, request: &Request, source: &mut S, ou
 /// - `NoMemory`: memory was not found, wherever it is taken. With this status, and with `Usage`, `Refused` and
 ///   `ReadFault`, `out` is left as it was.
 ///
-/// A fault of `err` changes neither the status nor what `out` took.
+/// A fault of `err` changes neither the status nor what `out` took: both are settled before `err` is lent to anything, and
+/// `tell` hands the status back.
 pub fn run<S: Source, O: Sink, E: Sink>(
     alloc: Global,
     words: &[String],
@@ -133,10 +151,5 @@ pub fn run<S: Source, O: Sink, E: Sink>(
     ensures err { ErrAfter E.Sink err.old err.new result }
     ensures err_count { E.faults err.old ≤ E.faults err.new }
 {
-    let status = match read_words(words) {
-        None => Status::Usage,
-        Some(request) => obey(alloc, &request, source, out),
-    };
-    tell(status, err);
-    status
+    tell(decide(alloc, words, source, out), err)
 }

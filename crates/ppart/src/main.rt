@@ -32,8 +32,7 @@ fn run_on(rt: &HostRuntime, words: &[String]) -> Status {
 // Memory for the words was not found.
 fn refuse(rt: &HostRuntime) -> Status {
     let mut err = StdSink::new(rt.stderr());
-    tell(Status::NoMemory, &mut err);
-    Status::NoMemory
+    tell(Status::NoMemory, &mut err)
 }
 
 fn main(rt: HostRuntime) -> ExitCode {
