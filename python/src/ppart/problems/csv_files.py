@@ -1,7 +1,7 @@
 """CSV files of problems.
 
-A file is a path or an open file. Rows that begin with # are comments, and the first row is a heading if what should be
-its number is none. Blanks around fields are dropped.
+A file is a path or an open file. Rows that begin with # are comments, and the first row is a heading if a word stands
+where its number should, so edges without weights have no heading. Blanks around fields are dropped.
 """
 from __future__ import annotations
 
