@@ -101,9 +101,10 @@ def outcomes(paths: list[str], asked: argparse.Namespace) -> list[Outcome | Exce
     found = [load(path, asked) for path in paths]
     problems = [problem for problem in found if not isinstance(problem, Exception)]
     with ThreadPoolExecutor(asked.jobs) as threads, MovingLine(sys.stderr) as line:
-        solved = iter(list(solve(problems, asked.command, threads, argument=asked.argument, progress=line.progress,
-                                 timeout=asked.timeout)))
-    return [problem if isinstance(problem, Exception) else next(solved) for problem in found]
+        solved = list(solve(problems, asked.command, threads, argument=asked.argument, progress=line.progress,
+                            timeout=asked.timeout))
+    in_order = iter(solved)
+    return [problem if isinstance(problem, Exception) else next(in_order) for problem in found]
 
 
 def load(path: str, asked: argparse.Namespace) -> Problem | Exception:
