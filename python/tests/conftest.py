@@ -12,6 +12,11 @@ EXAMPLES = TOP / "examples"
 STORED = Path(__file__).resolve().parent / "stored"
 
 
+def stored(name: str) -> str:
+    """The answer that is stored for the picture of this name."""
+    return (STORED / f"{name}.answer").read_text()
+
+
 def pytest_collection_modifyitems(items):
     try:
         program.find()

@@ -1,4 +1,5 @@
-"""The script that makes the pictures of docs/pictures, and the answers from which tests make them again."""
+"""The script that makes the pictures of docs/pictures. `python3 drawings.py` stores the answers that it draws, so that
+tests can draw them without the program. It takes matplotlib."""
 import runpy
 
 from conftest import STORED, TOP
@@ -7,11 +8,6 @@ MAKE = runpy.run_path(str(TOP / "docs" / "pictures" / "make.py"))
 DRAWINGS = {drawing.name: drawing for drawing in MAKE["DRAWINGS"]}
 picture_of = MAKE["picture_of"]
 ask = MAKE["ask"]
-
-
-def stored(name: str) -> str:
-    """The answer that is stored for this picture."""
-    return (STORED / f"{name}.answer").read_text()
 
 
 if __name__ == "__main__":

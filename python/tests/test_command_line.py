@@ -78,9 +78,10 @@ def test_csv(capsys, tmp_path):
     (tmp_path / "edges.csv").write_text("a,b\nb,c\n")
     assert command_line.main(["densest", "--csv", str(tmp_path / "edges.csv"), "--more", str(tmp_path / "more.csv")]) == 0
     assert "1/2      a, b, c" in capsys.readouterr().out
-    with pytest.raises(SystemExit) as usage:
-        command_line.main(["curve"])
-    assert usage.value.code == 2
+    for words_without_form in (["curve"], ["cake"], ["curve", "--text", "-", "--jobs", "0"]):
+        with pytest.raises(SystemExit) as usage:
+            command_line.main(words_without_form)
+        assert usage.value.code == 2
 
 
 def test_many_texts(capsys):

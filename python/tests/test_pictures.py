@@ -2,12 +2,12 @@
 import re
 
 import pytest
-from conftest import TOP
+from conftest import TOP, stored
 
 import ppart
 
 matplotlib = pytest.importorskip("matplotlib")
-from drawings import DRAWINGS, ask, picture_of, stored  # noqa: E402
+from drawings import DRAWINGS, ask, picture_of  # noqa: E402
 
 from ppart import answers, errors, pictures, tables, words  # noqa: E402
 
@@ -125,7 +125,7 @@ def test_many_nodes():
 @pytest.mark.program
 def test_edge_cases(tmp_path):
     """No prices, no levels, no edges, negative levels, many of everything: each can be drawn."""
-    many = ppart.Graph([(f"a{i}", f"a{i + 1}", i % 7 + 1) for i in range(40)])
+    many = ppart.Graph([(f"a{i}", f"a{i + 1}", i % 7 + 1) for i in range(34)])
     items = {f"item {i}": (i - 20, 1) for i in range(50)}
     wide = [("s", i, 0, i + 1) for i in range(12)] + [(i, "t", 9) for i in range(12)]
     thread = ppart.Graph([("a", "b")] * 5)

@@ -42,9 +42,17 @@ def options() -> argparse.ArgumentParser:
     parser.add_argument("--high", metavar="X", help="the high end; without it, at takes its parameter and 1 more")
     parser.add_argument("--picture", metavar="FILE", help="an SVG, PNG or PDF file")
     parser.add_argument("--check", action="store_true", help="let the program check its answer")
-    parser.add_argument("--timeout", type=float, metavar="SECONDS", help="how long the program may take for a problem")
-    parser.add_argument("--jobs", type=int, default=os.cpu_count(), metavar="N", help="how many texts at once")
+    parser.add_argument("--timeout", type=positive, metavar="SECONDS", help="how long the program may take for a problem")
+    parser.add_argument("--jobs", type=positive, default=os.cpu_count(), metavar="N", help="how many texts at once")
     return parser
+
+
+def positive(word: str) -> int:
+    """A whole number above 0. Raises ValueError for another word, of which argparse tells."""
+    number = int(word)
+    if number < 1:
+        raise ValueError
+    return number
 
 
 def main(arguments: list[str]) -> int:
@@ -93,9 +101,10 @@ def outcomes(paths: list[str], asked: argparse.Namespace) -> list[Outcome | Exce
     found = [load(path, asked) for path in paths]
     problems = [problem for problem in found if not isinstance(problem, Exception)]
     with ThreadPoolExecutor(asked.jobs) as threads, MovingLine(sys.stderr) as line:
-        solved = iter(list(solve(problems, asked.command, threads, argument=asked.argument, progress=line.progress,
-                                 timeout=asked.timeout)))
-    return [problem if isinstance(problem, Exception) else next(solved) for problem in found]
+        solved = list(solve(problems, asked.command, threads, argument=asked.argument, progress=line.progress,
+                            timeout=asked.timeout))
+    in_order = iter(solved)
+    return [problem if isinstance(problem, Exception) else next(in_order) for problem in found]
 
 
 def load(path: str, asked: argparse.Namespace) -> Problem | Exception:

@@ -33,9 +33,9 @@ class Job(NamedTuple):
 
 
 class Waiting(NamedTuple):
-    """A problem whose outcome is not there yet. `job` is None if the problem is unfit; then `future` has the error."""
+    """A problem whose outcome is not there yet: its job, and where a worker puts what the program wrote."""
     problem: Problem
-    job: Job | None
+    job: Job
     future: Future[str | Error]
 
 
@@ -84,7 +84,7 @@ class Asking:
         """The outcomes of all problems, in their order."""
         total = len(problems) if isinstance(problems, Sized) else None
         source = iter(problems)
-        waiting: deque[Waiting] = deque()
+        waiting: deque[Waiting | Outcome] = deque()
         ended: Exception | None = None
         done = 0
         try:
@@ -96,7 +96,8 @@ class Asking:
                         ended = raised
                 if not waiting:
                     break
-                outcome = self.finish(waiting.popleft())
+                first = waiting.popleft()
+                outcome = first if isinstance(first, Outcome) else self.finish(first)
                 done += 1
                 if progress:
                     progress(done, total)
@@ -105,18 +106,20 @@ class Asking:
                 raise ended
         finally:
             for left in waiting:
-                left.future.cancel()
+                if isinstance(left, Waiting):
+                    left.future.cancel()
             self.threads.shutdown(cancel_futures=True)
 
-    def begin(self, problem: Problem) -> Waiting:
-        """Gives the problem to the executor, or to the threads if the executor takes no more."""
+    def begin(self, problem: Problem) -> Waiting | Outcome:
+        """Gives the problem to the executor, or to the threads if the executor takes no more.
+
+        If the problem is unfit, that is its outcome.
+        """
         try:
             words = words_for(self.command, problem, self.argument)
-            job = Job(words, problem.text(), self.program, self.timeout)
         except Error as error:
-            unfit: Future[str | Error] = Future()
-            unfit.set_result(error)
-            return Waiting(problem, None, unfit)
+            return Outcome(problem, error=error)
+        job = Job(words, problem.text(), self.program, self.timeout)
         try:
             return Waiting(problem, job, self.executor.submit(do, job))
         except Exception:  # it is closed, or broken
@@ -125,8 +128,8 @@ class Asking:
     def finish(self, waiting: Waiting) -> Outcome:
         """The outcome of a problem, once it is there."""
         found = self.result(waiting)
-        if isinstance(found, Error) or waiting.job is None:
-            return Outcome(waiting.problem, error=found if isinstance(found, Error) else None)
+        if isinstance(found, Error):
+            return Outcome(waiting.problem, error=found)
         try:
             answer = command_named(self.command).answer(waiting.problem, waiting.job.words, found)
         except Error as error:
@@ -138,6 +141,4 @@ class Asking:
         try:
             return waiting.future.result()
         except Exception:
-            if waiting.job is None:
-                raise
             return self.threads.submit(do, waiting.job).result()

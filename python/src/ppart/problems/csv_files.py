@@ -1,7 +1,7 @@
 """CSV files of problems.
 
-A file is a path or an open file. Rows that begin with # are comments, and the first row is a heading if what should be
-its number is none. Blanks around fields are dropped.
+A file is a path or an open file. Rows that begin with # are comments, and the first row is a heading if a word stands
+where its number should, so edges without weights have no heading. Blanks around fields are dropped.
 """
 from __future__ import annotations
 
@@ -11,7 +11,7 @@ from collections import Counter
 from collections.abc import Iterable
 from typing import TextIO
 
-from ppart.errors import BadName, NotExact
+from ppart.errors import BadName, NotExact, Unreadable
 from ppart.numbers import Number, exact
 from ppart.problems.names import Name
 
@@ -21,12 +21,15 @@ File = str | os.PathLike[str] | TextIO
 def read_rows(file: File, columns: int, number: int) -> list[list[str]]:
     """The rows of a file, each of so many fields, of which field `number`, from 0, is a number, but in a heading.
 
-    Fields that are missing are empty.
+    Fields that are missing are empty. What is no CSV file in UTF-8 is Unreadable.
     """
-    if isinstance(file, (str, os.PathLike)):
-        with open(file, newline="", encoding="utf-8-sig") as opened:
-            return rows_of(csv.reader(opened), columns, number)
-    return rows_of(csv.reader(file), columns, number)
+    try:
+        if isinstance(file, (str, os.PathLike)):
+            with open(file, newline="", encoding="utf-8-sig") as opened:
+                return rows_of(csv.reader(opened), columns, number)
+        return rows_of(csv.reader(file), columns, number)
+    except (UnicodeDecodeError, csv.Error) as error:
+        raise Unreadable(f"the CSV file {file} is not well formed: {error}", file) from error
 
 
 def rows_of(records: Iterable[list[str]], columns: int, number: int) -> list[list[str]]:
