@@ -10,7 +10,7 @@ fn needed_item_is_taken(rt: HostRuntime) -> Result<(), Fail> {
     let mut lines = Lines::new(rt.alloc(), text);
     let items = read_closure(rt.alloc(), &mut lines)?;
     let answer = least_ratio(rt.alloc(), &items)?;
-    assert!(rt; answer.ratio.p() == 3 && answer.ratio.q() == 2);
+    assert!(rt; answer.ratio().p() == 3 && answer.ratio().q() == 2);
     let mut sink = MemSink::new(rt.alloc(), 100, 10, &[])?;
     let mut out = Printer::new(&mut sink);
     write_ratio(&mut out, &answer)?;
