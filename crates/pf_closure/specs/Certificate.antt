@@ -4,11 +4,12 @@ use Rattle.pf_model.specs.Fraction.{Fraction, IsParameter}
 use Rattle.pf_model.specs.Cut.{has, at_arc, IsContained}
 use Rattle.pf_model.specs.Flow.{sum_out, sum_in}
 use Rattle.pf_closure.specs.Problem.{ClosureProblem, IsNonempty, needing_at, needed_at}
-use Rattle.pf_closure.specs.declared.ratio.Ratio.{Ratio}
 
 -- a ratio p/q, the chosen items, and a number on each need in units of 1/q
-abbrev pub RatioAnswer : Type 0
-RatioAnswer = Ratio
+pub record RatioAnswer : Type 0 where
+  pub ratio : Fraction
+  pub chosen : List Bool
+  pub routing : List ℤ
 
 -- what the needs that point to an item bring to it, less what those that leave it take
 abbrev pub net_inflow : ClosureProblem → List ℤ → ℕ → ℤ

@@ -54,14 +54,15 @@ pub fn check_ratio(items: &Items, answer: &Ratio, scratch: &mut Scratch) -> bool
 {
     // They tell the limits of the items, and that the ratio is a fraction.
     let _ = items.items();
-    let _ = answer.ratio.q();
-    let routing = answer.routing.get();
-    let chosen = answer.chosen.get();
+    let at = answer.ratio();
+    let _ = at.q();
+    let routing = answer.routing().get();
+    let chosen = answer.chosen().get();
     if !is_routing(routing) {
         return false;
     }
     let sums = scratch.sums.as_mut_slice();
-    write_slacks(items, &answer.ratio, routing, sums);
+    write_slacks(items, at, routing, sums);
     if !are_nonneg(sums, chosen.len()) {
         return false;
     }

@@ -18,9 +18,9 @@ pub fn write_ratio<K: Sink>(out: &mut Printer<'_, K>, answer: &Ratio) -> Result<
     requires { is_spent out.old ≡ false }
     ensures { Adds out.old out.new (ratio_text answer.now) result }
 {
-    let chosen = answer.chosen.get();
-    let routing = answer.routing.get();
-    write_answer(out, b"closure", b"r", &answer.ratio, chosen, routing)
+    let chosen = answer.chosen().get();
+    let routing = answer.routing().get();
+    write_answer(out, b"closure", b"r", answer.ratio(), chosen, routing)
 }
 
 /// The answer of the right shape for the items whose text these bytes are: there is at most one. Numbers and words have one
@@ -33,9 +33,5 @@ pub fn read_ratio(alloc: Global, items: &Items, text: &[u8]) -> Result<Ratio, An
     let count = items.items() as usize;
     let width = items.needs() as usize;
     let answer = read_answer(alloc, b"closure", b"r", count, width, text)?;
-    Ok(Ratio {
-        ratio: answer.ratio,
-        chosen: answer.chosen,
-        routing: answer.numbers,
-    })
+    Ok(Ratio::new(answer.ratio, answer.chosen, answer.numbers))
 }

@@ -1,12 +1,14 @@
 -- A densest set as an answer, and its shape, whatever it says.
-use Rattle.std.specs.Prelude.{length}
+use Rattle.std.specs.Prelude.{ℤ, Bool, List, length}
+use Rattle.pf_model.specs.Fraction.{Fraction}
 use Rattle.pf_ratio.specs.Answer.{IsAnswerShape}
 use Rattle.pf_graph.specs.WeightedGraph.{WeightedGraph}
-use Rattle.pf_dense.specs.declared.dense.Dense.{Dense}
 
 -- a density, a set of vertices, and beside each edge its charge to its first end
-abbrev pub DenseAnswer : Type 0
-DenseAnswer = Dense
+pub record DenseAnswer : Type 0 where
+  pub density : Fraction
+  pub chosen : List Bool
+  pub charges : List ℤ
 
 -- a fraction in lowest terms, one truth value per vertex, and one charge per edge, each of a size below 2^104
 abbrev pub IsDenseShape : WeightedGraph → DenseAnswer → Type 0

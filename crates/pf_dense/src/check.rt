@@ -28,10 +28,10 @@ pub fn check_dense(graph: &Graph, answer: &Dense, scratch: &mut Scratch) -> bool
 {
     // They tell the limits of the graph, and that the density is a fraction.
     let _ = graph.vertices();
-    let at = &answer.density;
+    let at = answer.density();
     let _ = at.q();
-    let charges = answer.charges.get();
-    let chosen = answer.chosen.get();
+    let charges = answer.charges().get();
+    let chosen = answer.chosen().get();
     if !are_charges(graph, at, charges) {
         return false;
     }

@@ -177,11 +177,7 @@ fn finish(
 {
     let density = solve(graph, finder, side, flow, &mut set, &mut charges);
     let _ = density.q();
-    Dense {
-        density,
-        chosen: Side::from_vec(set),
-        charges: Numbers::from_vec(charges),
-    }
+    Dense::new(density, Side::from_vec(set), Numbers::from_vec(charges))
 }
 
 // The densest set of a graph whose network the room is for.

@@ -17,9 +17,9 @@ pub fn write_dense<K: Sink>(out: &mut Printer<'_, K>, answer: &Dense) -> Result<
     requires { is_spent out.old ≡ false }
     ensures { Adds out.old out.new (dense_text answer.now) result }
 {
-    let chosen = answer.chosen.get();
-    let charges = answer.charges.get();
-    write_answer(out, b"densest", b"d", &answer.density, chosen, charges)
+    let chosen = answer.chosen().get();
+    let charges = answer.charges().get();
+    write_answer(out, b"densest", b"d", answer.density(), chosen, charges)
 }
 
 /// The answer of the right shape for the graph whose text these bytes are: there is at most one. Numbers and words have one
@@ -32,9 +32,5 @@ pub fn read_dense(alloc: Global, graph: &Graph, text: &[u8]) -> Result<Dense, An
     let count = graph.vertices() as usize;
     let width = graph.edges() as usize;
     let answer = read_answer(alloc, b"densest", b"d", count, width, text)?;
-    Ok(Dense {
-        density: answer.ratio,
-        chosen: answer.chosen,
-        charges: answer.numbers,
-    })
+    Ok(Dense::new(answer.ratio, answer.chosen, answer.numbers))
 }

@@ -18,4 +18,5 @@ pub mod KnownRows
 pub mod TextLemmas
 pub mod CertifiedTexts
 pub mod SameAnswers
+pub mod LevelCount
 pub mod Examples

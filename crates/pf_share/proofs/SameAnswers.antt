@@ -1,5 +1,5 @@
 -- Answers of the right shape with equal texts are equal.
-use Rattle.std.proofs.Common.{◌≡◌, ℕ, ◌+◌, ◌<◌, ◌^◌, List, [], ◌∷◌, ◌++◌, length, get_or, drop, map, refl, sym, ap, ◌∙◌, append_assoc, arith}
+use Rattle.std.proofs.Common.{◌≡◌, ℕ, ◌+◌, ◌<◌, ◌^◌, List, [], ◌∷◌, ◌++◌, length, get_or, drop, map, refl, sym, ap, ◌∙◌, subst, append_assoc, arith}
 use Rattle.std.specs.Prelude.{◌≢◌, ℤ, pos, nat_abs, All, codes}
 use Rattle.std.specs.List.{AllByRecursion}
 use Rattle.std.specs.Fmt.{decimal, signed_decimal}
@@ -93,7 +93,7 @@ flow_digits : (flow : List ℤ) → All (IsWithinSize capacity_bound) flow → A
 flow_digits flow each = λ i d low. let s = each i d low in let l = s.low in let h = s.high in omega (arith, ints, l, h)
 
 pub one_answer : SharesFromText
-one_answer p a b sa sb few few' e =
+one_answer p a b sa sb few e =
     let word : ArePlain (codes "o" ∷ codes "share" ∷ []) = (record { some = omega arith; all = refl }, (record { some = omega arith; all = refl }, tt)) in
     let plain : (n : ℕ) → ArePlain (codes "k" ∷ decimal n ∷ []) = λ n. (record { some = omega arith; all = refl }, (decimal_plain n, tt)) in
     let row : (numbers : List ℤ) → ArePlain (codes "m" ∷ map signed_decimal numbers) = λ numbers. (record { some = omega arith; all = refl }, numbers_plain numbers) in
@@ -106,6 +106,7 @@ one_answer p a b sa sb few few' e =
     let levels = same_levels 0 a.levels b.levels (row_of_groups a.groups (node_lines p a [])) (row_of_groups b.groups (node_lines p b []))
     (recursion_from_All IsFractionShape a.levels sa.levels) (recursion_from_All IsFractionShape b.levels sb.levels) (groups_mark a.groups (node_lines p a []))
     (groups_mark b.groups (node_lines p b [])) count.same_rest in
+    let few' : length b.levels < 10 ^ 64 = subst (λ (l : List Fraction). length l < 10 ^ 64) levels.levels few in
     let middle = same_line (codes "m" ∷ map signed_decimal a.groups) (codes "m" ∷ map signed_decimal b.groups) (node_lines p a []) (node_lines p b []) (row a.groups) (row b.groups) levels.behind in
     let groups = same_numbers a.groups b.groups (recursion_from_All HasDigits a.groups (few_digits p a sa few)) (recursion_from_All HasDigits b.groups (few_digits p b sb few'))
     (ap (λ (fields : List (List ℕ)). drop 1 fields) middle.same_parts) in

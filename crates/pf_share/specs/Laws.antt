@@ -1,5 +1,5 @@
 -- What holds of fair shares and of what certifies them.
-use Rattle.std.specs.Prelude.{◌≡◌, ◌↔◌, ℕ, ◌<◌, ◌^◌, pos, List, length, Ok}
+use Rattle.std.specs.Prelude.{◌≡◌, ◌↔◌, ℕ, ◌<◌, ◌≤◌, ◌^◌, pos, List, length, Ok}
 use Rattle.pf_model.specs.Fraction.{Fraction, IsEqual}
 use Rattle.pf_model.specs.Answer.{Curve}
 use Rattle.pf_model.specs.Curve.{IsCurve, CertifiesCurve, point_at}
@@ -29,9 +29,18 @@ CurveIsRead = (p : ShareProblem) (curve : Curve) (a : SharesAnswer) → IsBounde
 abbrev pub AcceptedIsBounded : Type 0
 AcceptedIsBounded = (text : List ℕ) (read : Accepted ShareProblem) → problem_of share text ≡ Ok read → IsBoundedSharing read.problem
 
--- answers of the right shape with equal texts are equal, where they have fewer levels than a number of 64 digits can count
+-- answers of the right shape with equal texts are equal, where one of them has fewer levels than a number of 64 digits can count
 abbrev pub SharesFromText : Type 0
-SharesFromText = (p : ShareProblem) (a b : SharesAnswer) → IsSharesShape p a → IsSharesShape p b → length a.levels < 10 ^ 64 → length b.levels < 10 ^ 64 →
+SharesFromText = (p : ShareProblem) (a b : SharesAnswer) → IsSharesShape p a → IsSharesShape p b → length a.levels < 10 ^ 64 →
+    shares_text p a ≡ shares_text p b → a ≡ b
+
+-- a certified answer has no more levels than the network has nodes
+abbrev pub FewLevels : Type 0
+FewLevels = (p : ShareProblem) (a : SharesAnswer) → CertifiesShares p a → length a.levels ≤ p.nodes
+
+-- the text of a certified answer is the text of no other answer of the right shape, however many levels that has
+abbrev pub CertifiedFromText : Type 0
+CertifiedFromText = (p : ShareProblem) (a b : SharesAnswer) → IsBoundedSharing p → IsSharesShape p a → IsSharesShape p b → CertifiesShares p a →
     shares_text p a ≡ shares_text p b → a ≡ b
 
 -- the verdict is `yes` for exactly the texts of right answers

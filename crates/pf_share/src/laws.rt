@@ -1,7 +1,7 @@
 //! What holds of fair shares, each law as the contract of a function that does nothing.
 
 ghost use Rattle.pf_share.specs.Worked.{NarrowArc, NarrowShares, OneLevel, NotFull, NoWayOut, Thirds};
-ghost use Rattle.pf_share.specs.Laws.{CertificateImpliesFair, CurveIsRead, OneFairVector, AcceptedIsBounded, SharesFromText, CertifiedIsRight};
+ghost use Rattle.pf_share.specs.Laws.{CertificateImpliesFair, CurveIsRead, OneFairVector, AcceptedIsBounded, SharesFromText, FewLevels, CertifiedFromText, CertifiedIsRight};
 
 /// What certifies shares proves them fair.
 pub fn certificate_implies_fair()
@@ -34,9 +34,12 @@ pub fn accepted_networks_are_bounded()
     ensures { AcceptedIsBounded }
 {}
 
-/// The text of shares of the right shape, with fewer than 10^64 levels, is the text of no others of that kind; and the verdict on a
-/// text is `yes` for exactly the texts of right answers.
+/// The text of a certified answer is the text of no other answer of the right shape: it has no more levels than there are nodes.
+/// The same holds of every answer of the right shape with fewer than 10^64 levels. And the verdict on a text is `yes` for exactly
+/// the texts of right answers.
 pub fn texts_determine_answers()
     ensures shares { SharesFromText }
+    ensures few { FewLevels }
+    ensures only { CertifiedFromText }
     ensures certified { CertifiedIsRight }
 {}

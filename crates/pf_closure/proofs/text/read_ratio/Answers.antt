@@ -14,8 +14,8 @@ returns-in_err-answer-clause-refused c = λ e answer shape there.
     (shape_at _ _ _ _ _ _ _ (sym c.items-count.ensures.value) (sym c.needs-width.ensures) shape) there
 
 pub returns-clause-shape : goal.returns-clause-shape
-returns-clause-shape c = shape_at _ _ _ _ _ _ _ c.items-count.ensures.value c.needs-width.ensures c.in_ok-answer.ensures.shape
+returns-clause-shape c = rw c.new.ensures (shape_at _ _ _ _ _ _ _ c.items-count.ensures.value c.needs-width.ensures c.in_ok-answer.ensures.shape)
 
 pub returns-clause-text : goal.returns-clause-text
 unfolding ratio_text
-returns-clause-text c = c.in_ok-answer.ensures.text
+returns-clause-text c = rw c.new.ensures c.in_ok-answer.ensures.text

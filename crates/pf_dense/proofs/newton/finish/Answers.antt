@@ -10,8 +10,8 @@ returns-clause-shape c =
     let b : c.from_vec-2.result ≡ c.solve-density.new.charges =
     c.from_vec-2.ensures
     ∙ written_whole _ _ c.args.charges.len (c.solve-density.auto.charges ∙ c.deref_mut-2.ensures.len) (sym c.deref_mut-2.ensures.len ∙ ap length c.deref_mut-2.ensures.value) in
-    made_shape c.args.graph.now c.solve-density.result _ _ _ _ a b c.q.ensures.bounds c.q.ensures.lowest
-    c.solve-density.ensures.certificate c.solve-density.ensures.each
+    rw c.new.ensures (made_shape c.args.graph.now c.solve-density.result _ _ _ _ a b c.q.ensures.bounds c.q.ensures.lowest
+    c.solve-density.ensures.certificate c.solve-density.ensures.each)
 
 pub returns-clause-certificate : goal.returns-clause-certificate
 returns-clause-certificate c =
@@ -21,4 +21,4 @@ returns-clause-certificate c =
     let b : c.from_vec-2.result ≡ c.solve-density.new.charges =
     c.from_vec-2.ensures
     ∙ written_whole _ _ c.args.charges.len (c.solve-density.auto.charges ∙ c.deref_mut-2.ensures.len) (sym c.deref_mut-2.ensures.len ∙ ap length c.deref_mut-2.ensures.value) in
-    made_certificate c.args.graph.now c.solve-density.result _ _ _ _ a b c.solve-density.ensures.certificate
+    rw c.new.ensures (made_certificate c.args.graph.now c.solve-density.result _ _ _ _ a b c.solve-density.ensures.certificate)
