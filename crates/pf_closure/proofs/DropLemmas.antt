@@ -61,11 +61,6 @@ certified p x chosen marks routing slacks unit full wide r s low d rest some = r
   some = some;
 }
 
-pub routed_of : (p : ClosureProblem) (x : Fraction) (chosen : List Bool) (routing : List ℤ) → CertifiesRatio p x chosen routing → AreRouted routing (length routing)
-routed_of p x chosen routing c =
-    let wide = c.routing_is.full in
-    record { low = λ k h. c.routing_is.low k (omega (arith, h, wide)); high = λ k h. c.routing_is.high k (omega (arith, h, wide)) }
-
 pub nonneg_of : (p : ClosureProblem) (x : Fraction) (chosen : List Bool) (routing slacks : List ℤ) → HasSlacks p x routing slacks → CertifiesRatio p x chosen routing →
     (i : ℕ) → i < length chosen → pos 0 ≤ℤ at_arc slacks i
 nonneg_of p x chosen routing slacks s c i low =

@@ -1,5 +1,5 @@
 -- Items gathered from the places of a text, one after the other.
-use Rattle.std.proofs.Common.{◌≡◌, ℕ, zero, suc, ◌+◌, ◌<◌, ◌≤◌, List, [], ◌∷◌, ◌++◌, length, get_or, take, map, Option, Some, None, Result, Err, refl, sym, ap, ◌∙◌, arith}
+use Rattle.std.proofs.Common.{◌≡◌, ℕ, zero, suc, ◌+◌, ◌<◌, List, [], ◌∷◌, ◌++◌, length, get_or, take, map, Option, Some, None, Result, Err, refl, sym, ap, ◌∙◌, arith}
 use Rattle.std.specs.Prelude.{ℤ}
 use Rattle.std.specs.Option.{option_map}
 use Rattle.std.proofs.lemmas.List.{take_more}
@@ -10,7 +10,6 @@ use Rattle.pf_lines.specs.Gathering.{ObeysRules}
 use Rattle.pf_closure.specs.Problem.{ClosureProblem}
 use Rattle.pf_closure.specs.Refused.{IsRefusedBy}
 use Rattle.pf_closure.specs.Text.{all_given, problem_by}
-use Rattle.pf_model.proofs.Sums.{take_whole}
 
 -- the items of the first places
 pub record AreGathered (slots : List (Option (ℤ × ℤ))) (i : ℕ) (costs weights : List ℤ) : Type 0 where
@@ -18,13 +17,6 @@ pub record AreGathered (slots : List (Option (ℤ × ℤ))) (i : ℕ) (costs wei
   pub all : all_given (take i slots) ≡ Some items
   pub costs_are : costs ≡ map (λ item. item.0) items
   pub weights_are : weights ≡ map (λ item. item.1) items
-
-take_none : (slots : List (Option (ℤ × ℤ))) → all_given (take 0 slots) ≡ Some []
-take_none [] = refl
-take_none (slot ∷ slots) = refl
-
-pub gathered_begin : (slots : List (Option (ℤ × ℤ))) (costs weights : List ℤ) → costs ≡ [] → weights ≡ [] → AreGathered slots 0 costs weights
-gathered_begin slots costs weights e f = record { items = []; all = take_none slots; costs_are = e; weights_are = f }
 
 with_first : (y x : ℤ × ℤ) (items : List (ℤ × ℤ)) (o o' : Option (List (ℤ × ℤ))) → ((later : List (ℤ × ℤ)) → o ≡ Some later → o' ≡ Some (later ++ x ∷ [])) →
     option_map (λ l. y ∷ l) o ≡ Some items → option_map (λ l. y ∷ l) o' ≡ Some (items ++ x ∷ [])
@@ -58,15 +50,6 @@ one_missing [] i low e = absurd (omega (arith, low))
 one_missing (None ∷ slots) i low e = refl
 one_missing (Some x ∷ slots) zero low e = absurd cc
 one_missing (Some x ∷ slots) (suc i) low e = ap (option_map (λ l. x ∷ l)) (one_missing slots i (omega (arith, low)) e)
-
-pub gathered_end : (slots : List (Option (ℤ × ℤ))) (i : ℕ) (costs weights : List ℤ) → AreGathered slots i costs weights → length slots ≤ i →
-    AreGathered slots (length slots) costs weights
-gathered_end slots i costs weights g done = record {
-  items = g.items;
-  all = ap all_given (take_whole slots (length slots) (omega arith) ∙ sym (take_whole slots i done)) ∙ g.all;
-  costs_are = g.costs_are;
-  weights_are = g.weights_are;
-}
 
 -- a refusal of the items is one of their problem
 pub obeys_refused : (decided decided' : Result ClosureProblem RuleKind) (bad : LineBad) → decided ≡ decided' → IsRefusedBy decided bad →

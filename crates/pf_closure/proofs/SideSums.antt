@@ -1,8 +1,7 @@
 -- Sums over the items of a side, item by item.
-use Rattle.std.proofs.Common.{◌≡◌, ℕ, zero, suc, ◌+◌, ◌-◌, ◌*◌, ◌<◌, ◌≤◌, List, [], ◌∷◌, length, take, drop, refl, Bool, true, false, cond, arith, ap, sym, ◌∙◌, subst, add-one}
+use Rattle.std.proofs.Common.{◌≡◌, ℕ, zero, suc, ◌+◌, ◌-◌, ◌*◌, ◌<◌, ◌≤◌, List, [], ◌∷◌, length, take, refl, Bool, true, false, cond, arith, ap, sym, ◌∙◌, add-one}
 use Rattle.std.specs.Prelude.{ℤ, ◌+ℤ◌, ◌≤ℤ◌, pos, neg_ℤ}
 use Rattle.std.proofs.lemmas.Int.{ints}
-use Rattle.std.specs.List.{slice_range}
 use Rattle.std.proofs.lemmas.List.{get_or-take}
 use Rattle.pf_model.specs.Cut.{has, at_arc}
 use Rattle.pf_closure.specs.Problem.{ClosureProblem, sum_of_side}
@@ -69,14 +68,6 @@ sum_ends side numbers i sum s e =
     s.value ∙ ap (λ n. sum_of_side (take n (behind_first side)) (take n numbers)) e
     ∙ ap (λ l. sum_of_side (take (length numbers) (behind_first side)) l) (take_whole numbers (length numbers) (omega arith))
 
-pub all_low : (xs ys : List ℤ) → xs ≡ ys → ((i : ℕ) → i < length ys → neg_ℤ (pos 1000000) ≤ℤ at_arc ys i) →
-    (i : ℕ) → i < length xs → neg_ℤ (pos 1000000) ≤ℤ at_arc xs i
-all_low xs ys e h = let P : List ℤ → Type 0 = λ l. (i : ℕ) → i < length l → neg_ℤ (pos 1000000) ≤ℤ at_arc l i in subst P (sym e) h
-
-pub all_high : (xs ys : List ℤ) → xs ≡ ys → ((i : ℕ) → i < length ys → at_arc ys i ≤ℤ pos 1000000) →
-    (i : ℕ) → i < length xs → at_arc xs i ≤ℤ pos 1000000
-all_high xs ys e h = let P : List ℤ → Type 0 = λ l. (i : ℕ) → i < length l → at_arc l i ≤ℤ pos 1000000 in subst P (sym e) h
-
 pub sum_at : (side : List Bool) (xs ys : List ℤ) (n : ℕ) (sum : ℤ) → xs ≡ ys → length ys ≡ n → sum ≡ sum_of_side (take (length xs) (behind_first side)) xs →
     sum ≡ sum_of_side (take n (behind_first side)) ys
 sum_at side xs ys n sum e full h =
@@ -88,12 +79,3 @@ items_length side n low = length_front (behind_first side) n (length_behind side
 -- an item of a side, and the items of a side as a part of it
 pub item_has : (p : ClosureProblem) (side : List Bool) (i : ℕ) → i < length p.costs → has (items_of p side) i ≡ has side (suc i)
 item_has p side i low = get_or-take (length p.costs) (behind_first side) i false low ∙ has_behind side i
-
-drop_one : (side : List Bool) → drop 1 side ≡ behind_first side
-drop_one [] = refl
-drop_one (b ∷ side) = refl
-
-pub items_slice : (p : ClosureProblem) (side : List Bool) (count : ℕ) → count ≡ length p.costs + 1 → slice_range side 1 count ≡ items_of p side
-items_slice p side count e =
-    let n : count - 1 ≡ length p.costs = omega (arith, e) in
-    ap (λ k. take k (drop 1 side)) n ∙ ap (take (length p.costs)) (drop_one side)

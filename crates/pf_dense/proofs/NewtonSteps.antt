@@ -18,10 +18,6 @@ use Rattle.pf_dense.proofs.OneAnswer.{costs_some, cost_low}
 use Rattle.pf_dense.proofs.NetLemmas.{side_cut, side_capacity, side_at, cut_is_side, outside_full, at_cut, net_cut}
 use Rattle.pf_model.proofs.Facts.{off_both}
 
--- the vertices outside the smallest least cut are the greatest of the sets that lack the least
-least_step : (k a b : ℤ) → (k +ℤ (pos 2 *ℤ a)) ≤ℤ (k +ℤ (pos 2 *ℤ b)) → a ≤ℤ b
-least_step k a b h = omega (arith, ints, h)
-
 turn : (a b : Bool) → (not a ≡ true → not b ≡ true) → b ≡ true → a ≡ true
 turn true b h e = refl
 turn false true h e = let f = h refl in cc

@@ -123,10 +123,6 @@ out_of_true true true e h = cc
 out_of_true true false e h = cc
 out_of_true false b e h = refl
 
-not_false : (a b : Bool) → b ≡ not a → a ≡ false → b ≡ true
-not_false true b e h = cc
-not_false false b e h = e
-
 outside_first : (p q : Bool) → p ≡ false → not (p && q) ≡ true
 outside_first true q e = cc
 outside_first false q e = refl

@@ -1,5 +1,5 @@
 //! Texts of the kind `par`, which give a monotone parametric network, and the texts of the answers to `at` and `curve`.
-//! The text of a curve is also read back.
+//! The text of a curve is also read back. `write_sweep`, which writes the rows of a sweep, is handed on from `pf_sweep`.
 //!
 //! Proved: `read_par` gives exactly the network of the definition, or exactly its first refusal,
 //! and leaves the reader of lines after the line that decided. `write_at` and `write_curve` print
@@ -19,6 +19,7 @@ mod writing;
 
 pub use checking::is_certified_text;
 pub use pf_lines::{AnswerBad, ReadBad};
+pub use pf_sweep::write_sweep;
 pub use problem::read_par;
 pub use reading_curve::read_curve;
 pub use writing::{write_at, write_curve};

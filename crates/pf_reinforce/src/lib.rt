@@ -10,5 +10,5 @@ mod sums;
 mod text;
 
 pub use added::Added;
-pub use reinforcement::Reinforcement;
+pub use reinforcement::{Reinforcement, reinforce};
 pub use text::write_reinforcement;

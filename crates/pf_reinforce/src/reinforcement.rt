@@ -13,7 +13,7 @@ use pf_graph::{Graph, Partition, Partitions};
 use pf_rat::Rat;
 use std::alloc::Global;
 
-/// What `Reinforcement::of` answers. `Added` holds what is added to the edges, with its certificate. `Blocked` holds the
+/// What `reinforce` answers. `Added` holds what is added to the edges, with its certificate. `Blocked` holds the
 /// connected components of a graph that is not connected, as parts: nothing that is added to its edges brings it to a level
 /// above 0.
 #[derive(Drop)]
@@ -75,22 +75,20 @@ fn reinforced(
     ))
 }
 
-impl Reinforcement {
-    /// What to add to the weights of a graph, at the price of each edge, so that its strength is at least the level, and nothing
-    /// else does so for less; or that nothing does, which comes exactly where the level is above 0 and the graph is not
-    /// connected. Edges are raised by rising price as far as no set of vertices holds too much (Cunningham 1985). `NoMemory`
-    /// where memory was not found.
-    pub fn of(alloc: Global, graph: &Graph, level: &Rat) -> Result<Reinforcement, NoMemory>
-        requires two { 2 ≤ graph.now.nodes }
-        requires low { pos 0 ≤ℤ level.now.p }
-        ensures { IfOk result (Answers graph.now level.now) }
-    {
-        let mut forest = Forest::make(alloc, graph)?;
-        if is_blocked(graph, level, &mut forest) {
-            let parts = Partition::of(alloc, forest.partition().labels())?;
-            return Ok(Reinforcement::Blocked(parts));
-        }
-        let answer = reinforced(alloc, graph, level, &mut forest)?;
-        Ok(Reinforcement::Added(answer))
+/// What to add to the weights of a graph, at the price of each edge, so that its strength is at least the level, and nothing
+/// else does so for less; or that nothing does, which comes exactly where the level is above 0 and the graph is not
+/// connected. Edges are raised by rising price as far as no set of vertices holds too much (Cunningham 1985). `NoMemory`
+/// where memory was not found.
+pub fn reinforce(alloc: Global, graph: &Graph, level: &Rat) -> Result<Reinforcement, NoMemory>
+    requires two { 2 ≤ graph.now.nodes }
+    requires low { pos 0 ≤ℤ level.now.p }
+    ensures { IfOk result (Answers graph.now level.now) }
+{
+    let mut forest = Forest::make(alloc, graph)?;
+    if is_blocked(graph, level, &mut forest) {
+        let parts = Partition::of(alloc, forest.partition().labels())?;
+        return Ok(Reinforcement::Blocked(parts));
     }
+    let answer = reinforced(alloc, graph, level, &mut forest)?;
+    Ok(Reinforcement::Added(answer))
 }

@@ -1,5 +1,5 @@
 -- The network of all groups is within the bounds of the engine, and its lists are built arc by arc.
-use Rattle.std.proofs.Common.{◌≡◌, ℕ, zero, suc, ◌+◌, ◌^◌, ◌<◌, ◌≤◌, List, [], ◌∷◌, ◌++◌, length, get_or, take, refl, Bool, true, false, cond, not, ◌&&◌, arith, ap, sym, ◌∙◌, subst, add-one}
+use Rattle.std.proofs.Common.{◌≡◌, ℕ, zero, suc, ◌+◌, ◌^◌, ◌<◌, ◌≤◌, List, [], ◌∷◌, ◌++◌, length, get_or, take, Bool, true, false, cond, not, ◌&&◌, arith, ap, sym, ◌∙◌, subst, add-one}
 use Rattle.std.specs.Prelude.{ℤ, ◌*ℤ◌, ◌≤ℤ◌, ◌<ℤ◌, pos, neg_ℤ, ◌==◌, All}
 use Rattle.std.proofs.lemmas.Int.{ints}
 use Rattle.std.proofs.lemmas.List.{get_or_default, take_all}
@@ -8,7 +8,7 @@ use Rattle.std.proofs.Math.Seq.{take-suc}
 use Rattle.pf_model.specs.Fraction.{Fraction}
 use Rattle.pf_model.specs.Answer.{IsFractionShape, IsWithinSize}
 use Rattle.pf_model.specs.Limits.{capacity_bound, most_arcs}
-use Rattle.pf_model.specs.Digraph.{Digraph, IsDigraph, network_of}
+use Rattle.pf_model.specs.Digraph.{Digraph, IsDigraph}
 use Rattle.pf_model.specs.Cut.{FlowNetwork, IsProper, at_arc, sum_where}
 use Rattle.pf_model.specs.Flow.{IsGreatest}
 use Rattle.pf_model.proofs.Integers.{mul_most, mul_comm}
@@ -215,22 +215,3 @@ module _ (p : ShareProblem) (a : SharesAnswer) (b : IsBoundedSharing p) (shape :
       let h = whole_high i here in
       let P : ℤ → Type 0 = λ n. IsWithinSize capacity_bound n in
       subst P (sym (get_or_default first i d (pos 0) low)) (record { low = omega (arith, ints, l); high = omega (arith, ints, m, h) })
-
-abbrev pub graph_of : ℕ → List (ℕ × ℕ) → Digraph
-graph_of n ends = record { nodes = n; ends = ends }
-
-abbrev network_with : ℕ → ℕ → ℕ → List (ℕ × ℕ) → List ℤ → FlowNetwork
-network_with n s t ends caps = record { nodes = n; source = s; sink = t; ends = ends; capacities = caps }
-
-same_parts : (n n' s s' t t' : ℕ) (es es' : List (ℕ × ℕ)) (cs cs' : List ℤ) → n ≡ n' → s ≡ s' → t ≡ t' → es ≡ es' → cs ≡ cs' →
-    network_with n s t es cs ≡ network_with n' s' t' es' cs'
-same_parts n n' s s' t t' es es' cs cs' a b c d e = rw (a, b, c, d, e) refl
-
-pub found_there : (p : ShareProblem) (levels : List Fraction) (groups : List ℤ) (frame : Digraph) (n t : ℕ) (ends : List (ℕ × ℕ)) (caps flow : List ℤ) →
-    frame ≡ graph_of (n + 1) ends → n ≡ p.nodes → t ≡ p.sink → ends ≡ (group_net p levels groups).ends → caps ≡ (group_net p levels groups).capacities →
-    IsGreatest (network_of frame caps n t) flow → IsGreatest (group_net p levels groups) flow
-found_there p levels groups frame n t ends caps flow e a b c d best =
-    let P : Digraph → Type 0 = λ f. IsGreatest (network_of f caps n t) flow in
-    let Q : FlowNetwork → Type 0 = λ w. IsGreatest w flow in
-    subst Q (same_parts (n + 1) (suc p.nodes) n p.nodes t p.sink ends (group_net p levels groups).ends caps (group_net p levels groups).capacities
-    (add-one n ∙ ap suc a) a b c d) (subst P e best)

@@ -1,5 +1,5 @@
 -- The groups of the nodes, taken from a text.
-use Rattle.std.proofs.Common.{◌≡◌, ℕ, ◌<◌, List, length, get_or, arith, sym, ◌∙◌}
+use Rattle.std.proofs.Common.{◌≡◌, ℕ, ◌<◌, List, get_or, arith, sym, ◌∙◌}
 use Rattle.std.specs.Prelude.{ℤ, pos}
 use Rattle.std.proofs.lemmas.Int.{ints}
 use Rattle.std.proofs.lemmas.List.{get_or_default}
@@ -20,18 +20,6 @@ row_of_groups p nodes count groups e shape =
           let h = shape.high i there in
           let same : get_or groups i d ≡ at_arc groups i = get_or_default groups i d (pos 0) low in
           record { low = omega (arith, ints, l, same); high = omega (arith, ints, h, same) };
-    }
-
-pub groups_of_row : (p : ShareProblem) (nodes count : ℕ) (groups : List ℤ) → nodes ≡ p.nodes → IsRow nodes (pos 0) (pos count) groups → AreGrouped p groups p.nodes →
-    IsGroupsShape p count groups
-groups_of_row p nodes count groups e row grouped =
-    let full = row.full in
-    let within : (v : ℕ) → v < p.nodes → v < length groups = λ v low. omega (arith, low, e, full) in
-    record {
-      full = row.full ∙ e;
-      low = λ v low. (row.each v (pos 0) (within v low)).low;
-      high = λ v low. (row.each v (pos 0) (within v low)).high;
-      sources = λ v low source. (grouped.each v low).above source;
     }
 
 pub grouped_of : (p : ShareProblem) (count : ℕ) (groups : List ℤ) → IsGroupsShape p count groups → AreGrouped p groups p.nodes

@@ -1,7 +1,6 @@
 -- The lines of levels and of shares, one after another.
-use Rattle.std.proofs.Common.{◌≡◌, ℕ, suc, Bool, ◌+◌, ◌<◌, ◌≤◌, List, [], ◌∷◌, ◌++◌, length, get_or, drop, refl, arith, ap, sym, add-one, ◌∙◌, append_assoc, length-append}
-use Rattle.std.specs.Prelude.{ℤ, ◌≤ℤ◌, ◌==◌, if◌then◌else◌, pos, nat_abs, All}
-use Rattle.std.proofs.lemmas.Int.{ints}
+use Rattle.std.proofs.Common.{◌≡◌, ℕ, suc, ◌+◌, ◌<◌, ◌≤◌, List, [], ◌∷◌, ◌++◌, length, get_or, drop, refl, arith, ap, sym, add-one, ◌∙◌, append_assoc, length-append}
+use Rattle.std.specs.Prelude.{ℤ, ◌==◌, if◌then◌else◌, pos, nat_abs, All}
 use Rattle.std.proofs.lemmas.List.{append-nil}
 use Rattle.std.proofs.Math.Seq.{drop-cons}
 use Rattle.pf_model.specs.Fraction.{Fraction}
@@ -10,7 +9,7 @@ use Rattle.pf_model.specs.Cut.{at_arc}
 use Rattle.pf_lines.proofs.ItemsTaken.{Items, Stand}
 use Rattle.pf_share.specs.Certificate.{level_at}
 use Rattle.pf_share.specs.Text.{level_line, levels_text, share_line, node_text, shares_lines}
-use Rattle.pf_model.proofs.Facts.{not_zero, same_front}
+use Rattle.pf_model.proofs.Facts.{same_front}
 
 -- ---- levels
 
@@ -48,25 +47,6 @@ levels_bytes j (level ∷ levels) =
 
 pub no_source : (levels : List Fraction) (v : ℕ) (weight group : ℤ) → nat_abs weight ≡ 0 → node_text levels v weight group ≡ []
 no_source levels v weight group e = ap (λ n. if n == 0 then [] else share_line (v + 1) (level_at levels (nat_abs group)) weight) e
-
-is_source : (levels : List Fraction) (v : ℕ) (weight group : ℤ) → 1 ≤ nat_abs weight →
-    share_line (v + 1) (level_at levels (nat_abs group)) weight ≡ node_text levels v weight group
-is_source levels v weight group some =
-    sym (ap (λ (b : Bool). if b then [] else share_line (v + 1) (level_at levels (nat_abs group)) weight) (not_zero (nat_abs weight) some))
-
--- the line of a source, as it is written
-pub source_text : (levels : List Fraction) (v weight group : ℕ) (level : Fraction) (w g : ℤ) → pos weight ≡ w → group ≡ nat_abs g → level ≡ level_at levels group →
-    1 ≤ weight → share_line (v + 1) level (pos weight) ≡ node_text levels v w g
-source_text levels v weight group level w g weight_is group_is level_is some =
-    ap (λ x. share_line (v + 1) x (pos weight)) (level_is ∙ ap (level_at levels) group_is)
-    ∙ ap (share_line (v + 1) (level_at levels (nat_abs g))) weight_is
-    ∙ is_source levels v w g (omega (arith, ints, weight_is, some))
-
--- a node's group is one of the levels, where it is a source
-pub group_above : (group : ℕ) (weight : ℕ) (w g : ℤ) → pos weight ≡ w → group ≡ nat_abs g → (pos 1 ≤ℤ w → pos 1 ≤ℤ g) → 1 ≤ weight → 1 ≤ group
-group_above group weight w g weight_is group_is above some =
-    let h = above (omega (arith, ints, weight_is, some)) in
-    omega (arith, ints, h, group_is)
 
 pub shares_at : (levels : List Fraction) (v : ℕ) (weights groups : List ℤ) → v < length weights → v < length groups →
     shares_lines levels v (drop v weights) (drop v groups)

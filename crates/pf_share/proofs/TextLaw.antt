@@ -44,10 +44,6 @@ no_weights zero v = refl
 no_weights (suc n) zero = refl
 no_weights (suc n) (suc v) = no_weights n v
 
-none_some : {X : Type 0} (t : X) (o : Option X) → is_some o ≡ false → o ≡ Some t → ⊥
-none_some t None e f = cc
-none_some t (Some x) e f = cc
-
 some_none : {X : Type 0} (o : Option X) → not (is_some o) ≡ false → o ≡ None → ⊥
 some_none None e f = cc
 some_none (Some x) e f = cc
@@ -62,9 +58,6 @@ other_sink (Some x) t v e f = λ same. (let here : x ≡ t = cc in let a : (x ==
 
 same_some : (x t : ℕ) → Some x ≡ Some t → x ≡ t
 same_some x t e = cc
-
-abs_most : (n : ℤ) (k : ℕ) → pos 0 ≤ℤ n → n ≤ℤ pos k → nat_abs n ≤ k
-abs_most n k low high = omega (arith, ints, low, high)
 
 -- ---- the lines
 

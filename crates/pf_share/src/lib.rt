@@ -23,4 +23,5 @@ pub use network::share_net;
 pub use reading::{ShareKind, read_share};
 pub use shares::Shares;
 pub use sharing::Sharing;
+pub use solving::fair;
 pub use writing::write_shares;

@@ -107,29 +107,27 @@ fn still_of(alloc: Global, sharing: &Sharing) -> Result<Numbers, NoMemory>
     Ok(Numbers::from_vec(still))
 }
 
-impl Shares {
-    /// The fair shares, with a flow that certifies them. `NoMemory` is the only other answer.
-    ///
-    /// A parametric network (Gallo, Grigoriadis and Tarjan 1989): the source feeds each node in proportion to its weight, and a node's
-    /// level is the breakpoint of the least-cut function at which it joins the cut. The flows of the nodes of each level are then found all
-    /// at once.
-    pub fn of(alloc: Global, sharing: &Sharing) -> Result<Shares, NoMemory>
-        ensures best { IfOk result (IsBestShares sharing.now) }
-        ensures certificate { IfOk result (CertifiesShares sharing.now) }
-        ensures shape { IfOk result (IsSharesShape sharing.now) }
-    {
-        // Gives the proof what holds of every such network.
-        let _ = sharing.nodes();
-        let net = share_net(alloc, sharing)?;
-        let curve = cuts_of(alloc, &net)?;
-        let cuts = curve.points().len() - 1;
-        let joins = joins_of(alloc, sharing, &curve)?;
-        let first = first_of(joins.as_slice());
-        let levels = levels_of(alloc, sharing, &curve, first, cuts - first)?;
-        let groups = groups_of(alloc, joins.as_slice(), first, cuts)?;
-        let still = still_of(alloc, sharing)?;
-        let split = Shares::new(levels, groups, still);
-        let flow = group_flow(alloc, sharing, &split)?;
-        Ok(split.with_flow(flow))
-    }
+/// The fair shares, with a flow that certifies them. `NoMemory` is the only other answer.
+///
+/// A parametric network (Gallo, Grigoriadis and Tarjan 1989): the source feeds each node in proportion to its weight, and a node's
+/// level is the breakpoint of the least-cut function at which it joins the cut. The flows of the nodes of each level are then found all
+/// at once.
+pub fn fair(alloc: Global, sharing: &Sharing) -> Result<Shares, NoMemory>
+    ensures best { IfOk result (IsBestShares sharing.now) }
+    ensures certificate { IfOk result (CertifiesShares sharing.now) }
+    ensures shape { IfOk result (IsSharesShape sharing.now) }
+{
+    // Gives the proof what holds of every such network.
+    let _ = sharing.nodes();
+    let net = share_net(alloc, sharing)?;
+    let curve = cuts_of(alloc, &net)?;
+    let cuts = curve.points().len() - 1;
+    let joins = joins_of(alloc, sharing, &curve)?;
+    let first = first_of(joins.as_slice());
+    let levels = levels_of(alloc, sharing, &curve, first, cuts - first)?;
+    let groups = groups_of(alloc, joins.as_slice(), first, cuts)?;
+    let still = still_of(alloc, sharing)?;
+    let split = Shares::new(levels, groups, still);
+    let flow = group_flow(alloc, sharing, &split)?;
+    Ok(split.with_flow(flow))
 }

@@ -8,7 +8,7 @@ use crate::job::{Job, Stop};
 use pf_io::{Failed, Printer, Sink};
 use pf_lines::{Lines, ReadBad};
 use pf_rat::Rat;
-use pf_reinforce::{Reinforcement, write_reinforcement};
+use pf_reinforce::{Reinforcement, reinforce, write_reinforcement};
 use std::alloc::Global;
 use std::marker::Model;
 
@@ -57,7 +57,7 @@ impl Job for Reinforce {
     }
 
     fn solve(&self, alloc: Global, problem: &Divisible) -> Result<Reinforcement, Stop> {
-        let answer = Reinforcement::of(alloc, problem.graph(), &self.level)?;
+        let answer = reinforce(alloc, problem.graph(), &self.level)?;
         Ok(answer)
     }
 

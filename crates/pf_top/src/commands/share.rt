@@ -8,7 +8,7 @@ use crate::job::{Checked, Job, Stop};
 use pf_frame::NoMemory;
 use pf_io::{Failed, Printer, Sink};
 use pf_lines::{Lines, ReadBad};
-use pf_share::{Shares, Sharing, is_certified_shares_text, read_share, write_shares};
+use pf_share::{Shares, Sharing, fair, is_certified_shares_text, read_share, write_shares};
 use std::alloc::Global;
 
 /// The command.
@@ -33,7 +33,7 @@ impl Job for Share {
     }
 
     fn solve(&self, alloc: Global, problem: &Sharing) -> Result<Shares, Stop> {
-        let answer = Shares::of(alloc, problem)?;
+        let answer = fair(alloc, problem)?;
         Ok(answer)
     }
 

@@ -2,7 +2,7 @@ use Rattle.std.proofs.Common.{ℕ, List, refl, ◌∙◌, subst}
 use Rattle.pf_graph.specs.Labels.{IsPartitionOf}
 use Rattle.pf_strength.proofs.Steps.{same_labels}
 use Rattle.pf_reinforce.specs.Reinforcement.{IsBlocked}
-use Rattle.pf_reinforce.proofs.reinforcement.Reinforcement.of.Goals as goal
+use Rattle.pf_reinforce.proofs.reinforcement.reinforce.Goals as goal
 
 pub returns-then-is_blocked : goal.returns-then-is_blocked
 returns-then-is_blocked c =

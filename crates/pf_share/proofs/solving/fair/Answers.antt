@@ -1,5 +1,5 @@
 use Rattle.pf_share.proofs.Solved.{joins_within, joins_least, cuts_wide, levels_count, split_is, solved}
-use Rattle.pf_share.proofs.shares.Shares.of.Goals as goal
+use Rattle.pf_share.proofs.solving.fair.Goals as goal
 
 pub joins_of-requires : goal.joins_of-requires
 joins_of-requires c =
