@@ -8,4 +8,4 @@ mod tests;
 mod trimming;
 mod units;
 
-pub use units::carry;
+pub use units::{Units, carry, carry_within};
