@@ -6,4 +6,4 @@ mod scaling;
 mod trimming;
 mod units;
 
-pub use units::carry;
+pub use units::{Units, carry, carry_within};

@@ -175,6 +175,7 @@ pub fn trim(frame: &Frame, s: u32, t: u32, flow: &mut [i128], sums: &mut [i128])
     ensures bounded { IsBounded frame.now flow.new }
     ensures lowered { IsLowered frame.now s t flow.old flow.new }
     ensures given { HasNoDeficit frame.now s t flow.new }
+    ensures room { frame.now.nodes ≤ length sums.new }
 {
     relieve_all(frame, s, t, flow, sums);
     let nodes = frame.nodes();

@@ -1,5 +1,5 @@
 // Reading of texts with one spelling.
-ghost use Rattle.std.specs.Prelude.{◌≡◌, ◌≢◌, ◌↔◌, ◌++◌, ◌≤ℤ◌, ℕ, ℤ, List, IfNone, IfSome, IsTrue, length};
+ghost use Rattle.std.specs.Prelude.{◌≡◌, ◌≢◌, ◌↔◌, ◌++◌, ◌≤ℤ◌, ℕ, ℤ, List, true, IfNone, IfSome, IsTrue, length};
 ghost use Rattle.std.specs.List.{take_while};
 ghost use Rattle.std.specs.Bool.{OnFalse, OnTrue};
 ghost use Rattle.std.specs.Fmt.{signed_decimal};
@@ -7,6 +7,7 @@ ghost use Rattle.pf_text.specs.Numbers.{is_digit, number_front};
 ghost use Rattle.pf_lines.specs.Values.{is_canonical};
 
 use crate::numbers::{is_digit, split_sign, whole_between};
+use crate::short::{Front, short_front};
 use std::marker::Model;
 
 /// A text that is read from its front, in which words and numbers have one spelling.
@@ -45,6 +46,7 @@ fn split_number(text: &[u8]) -> (&[u8], &[u8])
 }
 
 // Whether no zero stands in front of another digit, also after a `-`.
+#[inline]
 fn is_canonical(front: &[u8]) -> bool
     ensures { result ≡ is_canonical front.now }
 {
@@ -53,6 +55,16 @@ fn is_canonical(front: &[u8]) -> bool
         [b'-', b'0', ..] => false,
         _ => true,
     }
+}
+
+// Whether the number has its one spelling, and lies from `min` to `max`.
+#[inline]
+fn is_taken(front: &Front<'_>, min: i128, max: i128) -> bool
+    ensures canonical { result ≡ true → is_canonical front.now.bytes.now ≡ true }
+    ensures low { result ≡ true → min ≤ℤ front.now.number }
+    ensures high { result ≡ true → front.now.number ≤ℤ max }
+{
+    is_canonical(front.bytes) && min <= front.number && front.number <= max
 }
 
 impl<'a> Exact<'a> {
@@ -88,6 +100,25 @@ impl<'a> Exact<'a> {
     /// Takes the longest front that is an optional `-` and digits, if it is the decimal text of a
     /// number from `min` to `max`. So `-0` and leading zeros are refused.
     pub fn num(&mut self, min: i128, max: i128) -> Option<i128>
+        ensures front { IfSome result (λ n. number_front self.old ≡ signed_decimal n) }
+        ensures range { IfSome result (λ n. (min ≤ℤ n) × (n ≤ℤ max)) }
+        ensures taken { IfSome result (λ n. self.old ≡ signed_decimal n ++ self.new) }
+        ensures none { IfNone result ((n : ℤ) → min ≤ℤ n → n ≤ℤ max → number_front self.old ≢ signed_decimal n) }
+        ensures kept { IfNone result (self.new ≡ self.old) }
+    {
+        if let Some(front) = short_front(self.rest) {
+            if is_taken(&front, min, max) {
+                self.rest = front.rest;
+                return Some(front.number);
+            }
+        }
+        self.long_num(min, max)
+    }
+
+    // The same, however many digits there are. What is refused comes here.
+    #[cold]
+    #[inline(never)]
+    fn long_num(&mut self, min: i128, max: i128) -> Option<i128>
         ensures front { IfSome result (λ n. number_front self.old ≡ signed_decimal n) }
         ensures range { IfSome result (λ n. (min ≤ℤ n) × (n ≤ℤ max)) }
         ensures taken { IfSome result (λ n. self.old ≡ signed_decimal n ++ self.new) }

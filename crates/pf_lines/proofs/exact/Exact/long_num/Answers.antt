@@ -7,7 +7,7 @@ use Rattle.pf_text.proofs.NumbersLemmas.{whole_of-signed_decimal}
 use Rattle.pf_lines.specs.Values.{is_canonical}
 use Rattle.pf_lines.proofs.ValueLemmas.{in_range, not_refused}
 use Rattle.pf_lines.proofs.SpellingLemmas.{small_between, fits_between, canonical_decimal, canonical_spelling}
-use Rattle.pf_lines.proofs.exact.Exact.num.Goals as goal
+use Rattle.pf_lines.proofs.exact.Exact.long_num.Goals as goal
 
 pub returns-then-not-is_canonical-clause-none : goal.returns-then-not-is_canonical-clause-none
 returns-then-not-is_canonical-clause-none c = λ n low high e.
