@@ -12,7 +12,7 @@ ghost use Rattle.pf_net.specs.Limits.{digraph_of};
 ghost use Rattle.pf_curve.specs.Finding.{IsEngineOf};
 
 use crate::point::Point;
-use pf_carry::carry;
+use pf_carry::{Units, carry_within};
 use pf_frame::{NoMemory, Numbers, Scratch, Side, reach};
 use pf_net::Net;
 use pf_preflow::Engine;
@@ -66,15 +66,18 @@ fn move_flow(
     from: &Rat,
     to: &Rat,
     engine: &mut Engine,
+    scratch: &mut Scratch,
     caps: &mut [i128],
     flow: &mut [i128],
 )
     requires from { IsInInterval net.now from.now }
     requires to { IsInInterval net.now to.now }
     requires engine { IsEngineOf net.now engine.old }
+    requires room { Serves scratch.old net.now.nodes (length net.now.arcs) }
     requires capacities { length caps.old ≡ length net.now.arcs }
     requires flow { IsFlow (network_at net.now from.now) flow.old }
     ensures engine { IsEngineOf net.now engine.new }
+    ensures places { KeepsPlaces scratch.old scratch.new }
     ensures capacities { caps.new ≡ map (capacity_at to.now) net.now.arcs }
     ensures greatest { IsGreatest (network_at net.now to.now) flow.new }
     ensures shape { IsFlowShape net.now flow.new }
@@ -84,8 +87,13 @@ fn move_flow(
     let t = net.sink();
     let from_unit = from.q();
     let to_unit = to.q();
+    let units = Units {
+        from: from_unit,
+        to: to_unit,
+    };
+    let sums = scratch.sums.as_mut_slice();
     net.caps_at(to, caps);
-    carry(frame, s, t, from_unit, to_unit, caps, flow);
+    carry_within(frame, s, t, &units, caps, flow, sums);
     engine.find_from(frame, caps, flow);
 }
 
@@ -168,7 +176,15 @@ impl<'a> Finder<'a> {
         ensures shape { IsFlowShape self.old flow.new }
         ensures same { self.new ≡ self.old }
     {
-        move_flow(self.net, from, to, &mut self.engine, &mut self.caps, flow);
+        move_flow(
+            self.net,
+            from,
+            to,
+            &mut self.engine,
+            &mut self.scratch,
+            &mut self.caps,
+            flow,
+        );
     }
 
     /// Writes the smallest least cut at a parameter of the interval. `side` is indexed by nodes.
