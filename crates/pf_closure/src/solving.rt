@@ -104,11 +104,7 @@ fn answer_of(alloc: Global, items: &Items, ratio: Rat, flow: &[i128]) -> Result<
     let mut sums = vec![in alloc; 0i128; count]?;
     let mut chosen = vec![in alloc; false; count]?;
     choose(items, &ratio, &routing, &mut sums, &mut chosen);
-    Ok(Ratio::new(
-        ratio,
-        Side::from_vec(chosen),
-        Numbers::from_vec(routing),
-    ))
+    Ok(Ratio::new(ratio, Side::from_vec(chosen), Numbers::from_vec(routing)))
 }
 
 // The answer, in working room: two sides, indexed by nodes, of which the first holds all nodes but the sink, and a flow, indexed by
