@@ -21,5 +21,3 @@ pub use pf_text::Refusal;
 pub use running::run;
 pub use status::Status;
 
-#[cfg(test)]
-mod tests;
