@@ -20,4 +20,3 @@ pub use messages::tell;
 pub use pf_text::Refusal;
 pub use running::run;
 pub use status::Status;
-
