@@ -1,15 +1,15 @@
 -- A node whose arcs out are emptied gives nothing from then on.
 use Rattle.std.proofs.Common.{◌≡◌, ℕ, zero, suc, ◌+◌, ◌<◌, ◌≤◌, List, [], length, get_or, refl, Bool, true, false, cond, arith, ◌∙◌, inl, inr, below_more, subst, zero-add}
 use Rattle.std.specs.Prelude.{ℤ, ◌≤ℤ◌, ◌<ℤ◌, pos, int_lt, ◌==◌}
-use Rattle.std.proofs.lemmas.Int.{ints, by_lt_z}
+use Rattle.std.proofs.lemmas.Int.{ints}
 use Rattle.std.proofs.lemmas.Bool.{cases_eq}
 use Rattle.pf_model.specs.Cut.{at_arc}
-use Rattle.pf_model.specs.Flow.{sum_out, sum_in}
+use Rattle.pf_model.specs.Flow.{sum_out}
 use Rattle.pf_model.specs.Digraph.{Digraph, arcs_out}
 use Rattle.pf_model.proofs.Sums.{sum_where_empty, sum_where_most}
 use Rattle.pf_model.proofs.Numbers.{numbers_find}
-use Rattle.pf_carry.specs.Trimming.{IsSummed, IsShortAt, HasNoDeficit, IsLowered, giving, less_at}
-use Rattle.pf_carry.proofs.Lowering.{less_here, less_most, lowered_short, lowered_then, sum_below}
+use Rattle.pf_carry.specs.Trimming.{IsSummed, IsShortAt, IsLowered, giving, less_at}
+use Rattle.pf_carry.proofs.Lowering.{less_here, less_most, sum_below}
 
 -- ---- one node
 
@@ -19,14 +19,6 @@ pub record IsEmptying (g : Digraph) (v : ℕ) (old flow sums : List ℤ) (items 
   pub most : (i : ℕ) → at_arc flow i ≤ℤ at_arc old i
   pub items_are : items ≡ arcs_out g v
   pub done : (k : ℕ) → k < index → at_arc flow (get_or items k 0) ≤ℤ pos 0
-
-pub emptying_begins : (g : Digraph) (v : ℕ) (flow sums : List ℤ) (items : List ℕ) → IsSummed g flow sums → items ≡ arcs_out g v → IsEmptying g v flow flow sums items 0
-emptying_begins g v flow sums items s e = record {
-  sums_are = s;
-  most = λ i. omega (arith, ints);
-  items_are = e;
-  done = λ k h. absurd (omega arith);
-}
 
 pub emptying_next : (g : Digraph) (v : ℕ) (old flow flow' sums sums' : List ℤ) (items : List ℕ) (index : ℕ) (a : ℤ) → IsEmptying g v old flow sums items index →
     get_or items index 0 < length g.ends → a ≡ at_arc flow (get_or items index 0) → flow' ≡ less_at flow (get_or items index 0) a → IsSummed g flow' sums' →
@@ -116,23 +108,3 @@ pub fewer_give : (g : Digraph) (s t : ℕ) (old flow flow' sums : List ℤ) (v :
 fewer_give g s t old flow flow' sums v m low most none =
     giving_fewer g flow flow' v (λ u. sum_where_most (λ arc. arc.0 == u) g.ends flow' flow (λ i p. most i))
     (some_out g flow sums s t v m.sums_are low (m.short low)) none g.nodes low
-
-pub trimming_next : (g : Digraph) (s t : ℕ) (old flow flow' sums sums' : List ℤ) (v v' : ℕ) → IsTrimming g s t old flow sums v → v < g.nodes →
-    ((i : ℕ) → at_arc flow' i ≤ℤ at_arc flow i) → IsSummed g flow' sums' → (v' < g.nodes → IsShortAt s t sums' v') →
-    (g.nodes ≤ v' → (u : ℕ) → u < g.nodes → IsShortAt s t sums' u → ⊥) → IsTrimming g s t old flow' sums' v'
-trimming_next g s t old flow flow' sums sums' v v' m low most sums_are short none =
-    let h = m.short low in
-    record {
-      sums_are = sums_are;
-      lowered = lowered_then g s t old flow flow' m.lowered (lowered_short g flow flow' sums s t v m.sums_are low h.not_source h.not_sink h.more most);
-      short = short;
-      none = none;
-    }
-
-pub trimming_ends : (g : Digraph) (s t : ℕ) (old flow sums : List ℤ) (v : ℕ) → IsTrimming g s t old flow sums v → g.nodes ≤ v → HasNoDeficit g s t flow
-trimming_ends g s t old flow sums v m done = record {
-  given = λ u low a b.
-      by_lt_z (sum_in g.ends flow u) (sum_out g.ends flow u)
-      (λ less. absurd (m.none done u low (record { not_source = a; not_sink = b; more = let is = m.sums_are.is u low in omega (arith, ints, is, less) })))
-      (λ fine. fine);
-}

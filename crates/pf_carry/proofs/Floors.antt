@@ -87,17 +87,6 @@ carried_full from to cap x h k l full =
     let f = floor_of (x *ℤ to) from (mul_nonneg x to l k) h in
     least_first cap (int_div (x *ℤ to) from) (at_most_floor (x *ℤ to) from (int_div (x *ℤ to) from) cap h f full)
 
-least_zero : (cap : ℤ) → pos 0 ≤ℤ cap → least_of cap (pos 0) ≡ pos 0
-least_zero cap h =
-    by_lt_z (pos 0) cap (λ less. least_second cap (pos 0) less) (λ most. let e = least_first cap (pos 0) most in omega (arith, ints, e, h, most))
-
-pub carried_none : (from to cap x : ℤ) → pos 1 ≤ℤ from → pos 0 ≤ℤ to → pos 0 ≤ℤ cap → x ≡ pos 0 → carried from to cap x ≡ pos 0
-carried_none from to cap x h k l e =
-    let none : x *ℤ to ≡ pos 0 = ap (λ n. n *ℤ to) e ∙ omega (arith, ints) in
-    let zero : pos 0 *ℤ from ≡ pos 0 = omega (arith, ints) in
-    carried_cut from to cap x (pos 0) h k (omega (arith, ints, e)) (record { low = omega (arith, ints, none, zero); high = omega (arith, ints, none, zero, h) })
-    ∙ least_zero cap l
-
 least_low : (x y : ℤ) → pos 0 ≤ℤ x → pos 0 ≤ℤ y → pos 0 ≤ℤ least_of x y
 least_low x y h k =
     by_lt_z y x (λ less. let e = least_second x y less in omega (arith, ints, e, k)) (λ most. let e = least_first x y most in omega (arith, ints, e, h))

@@ -137,9 +137,6 @@ summed_lower g flow flow' sums sums' sums'' i u w a x y s low some most e tail h
 
 -- ---- what lowering keeps
 
-pub lowered_none : (g : Digraph) (s t : ℕ) (flow : List ℤ) → IsLowered g s t flow flow
-lowered_none g s t flow = record { most = λ i. omega (arith, ints); kept = λ h. refl }
-
 pub lowered_then : (g : Digraph) (s t : ℕ) (a b c : List ℤ) → IsLowered g s t a b → IsLowered g s t b c → IsLowered g s t a c
 lowered_then g s t a b c p q = record {
   most = λ i. let x = p.most i in let y = q.most i in omega (arith, ints, x, y);
@@ -159,9 +156,3 @@ lowered_short g flow flow' sums s t v m low a b more most = record {
   most = most;
   kept = λ h. absurd (short_gives g flow sums s t v m low a b more h);
 }
-
-pub lowered_arc : (g : Digraph) (flow flow' sums : List ℤ) (s t v i : ℕ) (a : ℤ) → IsSummed g flow sums → v < g.nodes → v ≢ s → v ≢ t → pos 0 <ℤ at_arc sums v →
-    i < length g.ends → pos 0 ≤ℤ a → flow' ≡ less_at flow i a → IsLowered g s t flow flow'
-lowered_arc g flow flow' sums s t v i a m low p q more there some e =
-    let full = m.bounded.full in
-    lowered_short g flow flow' sums s t v m low p q more (λ k. less_most flow flow' i k a e (omega (arith, full, there)) some)

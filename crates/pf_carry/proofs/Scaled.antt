@@ -1,12 +1,12 @@
 -- Numbers that are written in another unit, arc by arc, beside the sums of them.
-use Rattle.std.proofs.Common.{◌≡◌, ℕ, zero, suc, ◌+◌, ◌<◌, ◌≤◌, List, [], ◌∷◌, length, get_or, set, replicate, refl, arith, ap, sym, ◌∙◌, below_more}
+use Rattle.std.proofs.Common.{◌≡◌, ℕ, zero, suc, ◌+◌, ◌<◌, ◌≤◌, List, [], ◌∷◌, length, get_or, set, refl, arith, ap, sym, ◌∙◌, below_more}
 use Rattle.std.specs.Prelude.{ℤ, ◌+ℤ◌, ◌-ℤ◌, ◌≤ℤ◌, pos}
 use Rattle.std.proofs.lemmas.Int.{ints}
 use Rattle.std.proofs.lemmas.List.{length-set, ext_get_or}
 use Rattle.pf_model.specs.Cut.{at_arc}
 use Rattle.pf_model.specs.Digraph.{Digraph}
 use Rattle.pf_frame.specs.Numbers.{IsBounded}
-use Rattle.pf_frame.proofs.Balances.{HasBalances, balances_start, balances_more, balances_all}
+use Rattle.pf_frame.proofs.Balances.{HasBalances, balances_more, balances_all}
 use Rattle.pf_carry.specs.Carry.{IsUnit, IsCarriable, carried, floored}
 use Rattle.pf_carry.specs.Trimming.{IsSummed}
 use Rattle.pf_carry.proofs.Floors.{carried_low, carried_high}
@@ -50,14 +50,6 @@ pub record IsScaled (g : Digraph) (wanted old flow sums : List ℤ) (i : ℕ) : 
   pub before : (k : ℕ) → k < i → at_arc flow k ≡ at_arc wanted k
   pub behind : (k : ℕ) → i ≤ k → at_arc flow k ≡ at_arc old k
   pub sums_are : HasBalances g.nodes g.ends wanted sums i
-
-pub scaled_begins : (g : Digraph) (wanted old sums : List ℤ) (n : ℕ) → sums ≡ replicate n (pos 0) → g.nodes ≤ n → IsScaled g wanted old old sums 0
-scaled_begins g wanted old sums n e room = record {
-  full = refl;
-  before = λ k h. absurd (omega arith);
-  behind = λ k h. refl;
-  sums_are = balances_start g.nodes g.ends wanted sums n e room;
-}
 
 pub scaled_next : (g : Digraph) (wanted old flow flow' sums sums' sums'' : List ℤ) (i u w : ℕ) (y : ℤ) → IsScaled g wanted old flow sums i → IsBounded g wanted →
     length old ≡ length g.ends → i < length g.ends → flow' ≡ set flow i (at_arc wanted i) →

@@ -14,7 +14,7 @@ use Rattle.pf_model.proofs.Certificate.{at_most_trans}
 use Rattle.pf_rat.proofs.Products.{product_abs, comes_back}
 use Rattle.pf_net.specs.Limits.{IsSmallArc, IsNear, IsBuilt, digraph_of}
 use Rattle.pf_preflow.specs.Engine.{Engined, network}
-use Rattle.pf_carry.specs.Carry.{IsUnit, IsCarriable}
+use Rattle.pf_carry.specs.Carry.{IsCarriable}
 use mir.Syntax.{w128}
 
 -- a parameter between two ends of these sizes has this size
@@ -58,10 +58,6 @@ carriable net x frame unit flow b inside e f flow_is = rw (e, f) (flow_carriable
 -- the denominator comes back from its bits
 pub unit_back : (x : Fraction) (unit : ℤ) → unit ≡ x.q → IsBoundedFraction x → to_z w128 (of_z w128 unit) ≡ x.q
 unit_back x unit e b = let low = b.parameter in let high = b.q_high in comes_back unit (omega (arith, ints, e, low, high)) ∙ e
-
--- the denominator of a parameter is a unit
-pub unit_of : (x : Fraction) → IsBoundedFraction x → IsUnit x.q
-unit_of x b = record { low = b.parameter; high = b.q_high }
 
 -- the preflow of a frame is the engine's
 pub preflow_here : (engine : Engined) (frame : Digraph) (s t s' t' : ℕ) (caps flow : List ℤ) → s ≡ s' → t ≡ t' → engine.source ≡ s' → engine.sink ≡ t' →

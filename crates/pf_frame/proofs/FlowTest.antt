@@ -31,10 +31,6 @@ within_of_flow g caps flow s t b f = record {
   high = λ i low. f.within.high i (omega (arith, b.full));
 }
 
--- what lies within the capacities does so whichever nodes are source and sink
-pub within_any_sink : (g : Digraph) (caps flow : List ℤ) (s t s' t' : ℕ) → IsWithin (network_of g caps s t) flow → IsWithin (network_of g caps s' t') flow
-within_any_sink g caps flow s t s' t' w = record { full = w.full; low = w.low; high = w.high }
-
 -- a flow within bounded capacities is bounded
 pub bounded_of_flow : (g : Digraph) (caps flow : List ℤ) (s t : ℕ) → IsBounded g caps → IsWithin (network_of g caps s t) flow → IsBounded g flow
 bounded_of_flow g caps flow s t b w = record {

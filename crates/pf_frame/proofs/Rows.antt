@@ -5,7 +5,6 @@ use Rattle.std.specs.List.{refill}
 use Rattle.std.specs.Vec.{with_items}
 use Rattle.std.specs.declared.alloc.Global.{Global}
 use Rattle.std.proofs.lemmas.List.{map-set, map-append, get_or-map, replicate-append-replicate, length-map}
-use Rattle.std.proofs.Math.Seq.{take-append_seam}
 use Rattle.pf_frame.specs.Lending.{row_at, with_row}
 
 abbrev pub rows_of : List (Vec ℤ Global) → List (List ℤ)
@@ -31,10 +30,3 @@ row_written rows table i row w view here low =
     let count : row.len ≡ length row.items = row.ok.0 in
     map-set (λ (r : Vec ℤ Global). r.items) rows i (with_items row w) ∙ ap (λ t. set t i (take row.len (w ++ drop (length w) row.items))) view
     ∙ ap (λ n. set table i (refill n row.items w)) count ∙ ap (λ r. set table i (refill (length r) r w)) e
-
--- what was written has the row's length, so the row is what was written
-refill_whole : (xs ws : List ℤ) → length ws ≡ length xs → refill (length xs) xs ws ≡ ws
-refill_whole xs ws e = rw (← e) (take-append_seam ws (drop (length ws) xs))
-
-pub with_row_is : (table : List (List ℤ)) (i : ℕ) (w : List ℤ) → length w ≡ length (row_at table i) → with_row table i w ≡ set table i w
-with_row_is table i w e = ap (λ r. set table i r) (refill_whole (row_at table i) w e)

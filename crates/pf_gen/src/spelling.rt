@@ -78,7 +78,7 @@ fn add_drawn(text: &mut Vec<u8>, n: u32, k: u32, generator: &mut Lcg64Xsh32) -> 
     Ok(())
 }
 
-/// The text of the kind `par` of the network of `n` nodes and `m` arcs that the seed draws, as docs/FORMATS.md writes it out.
+/// The text of the kind `par` of the network of `n` nodes and `m` arcs that the seed draws, as docs/formats/generate.md writes it out.
 /// Its words are those of the generator PCG XSH RR 64/32 (O'Neill 2014) that begins at the seed, in stream 54.
 pub fn net_text(alloc: Global, seed: u64, n: u32, m: u32) -> Result<Vec<u8>, NoMemory>
     requires low { 3 ≤ n }

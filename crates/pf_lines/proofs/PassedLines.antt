@@ -78,20 +78,11 @@ pub step_refusal : {G P : Type 0} (kind : Kind G P) (state : State G) (line : Li
 unfolding step
 step_refusal kind state line bad e = step_by_match kind state line.number (match_of (kind.forms state.header_numbers) line.fields) bad e
 
-pub end_refusal : {G P : Type 0} (kind : Kind G P) (state : State G) (line : Line) (bad : TextBad) → end_line kind state line ≡ Err bad → refused_line bad ≡ Some line.number
-unfolding end_line
-end_refusal kind state line bad e = by_test line.number _ (Count line.number) _ bad refl (by_rule line.number (kind.problem state.header_numbers state.given) _ bad) e
-
 -- after the line that is refused
 pub behind_refusal : {X Y : Type 0} (judged : Result Y TextBad) (value : X → Y) (answer : ReadBad) (line : Line) (place : Place)
     → Agrees judged value (Err answer) → ((bad : TextBad) → judged ≡ Err bad → refused_line bad ≡ Some line.number) → place ≡ behind line → IsBehindRefusal answer place
 behind_refusal judged value (Text bad) line place e told is = rw (told bad e, is) refl
 behind_refusal judged value NoMemory line place e told is = tt
-
-pub behind_if_refused : {X Y : Type 0} (judged : Result Y TextBad) (value : X → Y) (result : Result X ReadBad) (line : Line) (place : Place)
-    → Agrees judged value result → ((bad : TextBad) → judged ≡ Err bad → refused_line bad ≡ Some line.number) → place ≡ behind line → IfErr result (λ bad. IsBehindRefusal bad place)
-behind_if_refused judged value (Ok x) line place e told is = tt
-behind_if_refused judged value (Err answer) line place e told is = behind_refusal judged value answer line place e told is
 
 -- lines that were taken, and then others
 pub passed_then : (before middle after : Place) → HasPassed before middle → HasPassed middle after → HasPassed before after
@@ -131,10 +122,6 @@ made_at_end kind before after line state most e ends is all place =
 pub begun : {G P : Type 0} (kind : Kind G P) (before after : Place) (line : Line) (state : State G) → lines_left before ≡ line ∷ lines_left after → header kind line ≡ Ok state
     → problem_of_lines kind (lines_left before) ≡ body kind state (lines_left after)
 begun kind before after line state e ok = rw (e, ok) refl
-
-pub refused_header : {G P : Type 0} (kind : Kind G P) (before after : Place) (line : Line) (bad : TextBad) → lines_left before ≡ line ∷ lines_left after → header kind line ≡ Err bad
-    → problem_of_lines kind (lines_left before) ≡ Err bad
-refused_header kind before after line bad e err = rw (e, err) refl
 
 -- ---- the line `end` that decided
 

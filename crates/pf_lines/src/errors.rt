@@ -11,7 +11,7 @@ use thiserror::Error;
 #[derive(Clone, Copy, Debug, PartialEq, Eq, Error)]
 pub enum ReadBad {
     /// The text is refused: the first line that is refused, and why.
-    #[error("{0}")]
+    #[error("the text is refused")]
     Text(TextBad),
     /// Memory was not found.
     #[error("no memory")]
@@ -93,7 +93,7 @@ impl<T: Drop> From<AllocFailed<T>> for AnswerBad {
 #[derive(Clone, Copy, Debug, PartialEq, Eq, Error)]
 pub enum LineBad {
     /// The line breaks this rule of its kind.
-    #[error("rule {0}")]
+    #[error("a rule is broken")]
     Broken(RuleKind),
     /// Memory was not found.
     #[error("no memory")]

@@ -109,10 +109,6 @@ pub not_false : (b : Bool) → b ≡ false → not b ≡ true
 not_false true e = cc
 not_false false e = refl
 
-pub zero_step : (b : Bool) (a : ℤ) → a ≡ pos 0 → cond b (pos 0) (pos 0) +ℤ a ≡ pos 0
-zero_step true a h = omega (arith, ints)
-zero_step false a h = omega (arith, ints)
-
 pub two_more : (xs : List AffineArc) (a b : AffineArc) → (xs ++ (a ∷ [])) ++ (b ∷ []) ≡ xs ++ (a ∷ (b ∷ []))
 two_more [] a b = refl
 two_more (x ∷ xs) a b = ap (λ l. x ∷ l) (two_more xs a b)

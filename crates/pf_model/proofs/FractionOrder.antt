@@ -1,13 +1,12 @@
 -- The order of all fractions is total, and between parameters it is that of the cross products.
-use Rattle.std.proofs.Common.{◌≡◌, refl, ap, sym, ◌∙◌, subst, arith, Bool, true, false}
-use Rattle.std.specs.Prelude.{ℤ, pos, ◌*ℤ◌, ◌<ℤ◌, ◌≤ℤ◌, int_lt, if◌then◌else◌}
-use Rattle.std.specs.Bool.{Decides}
+use Rattle.std.proofs.Common.{◌≡◌, refl, ap, sym, subst, arith, Bool, true, false}
+use Rattle.std.specs.Prelude.{ℤ, pos, ◌*ℤ◌, ◌≤ℤ◌, int_lt, if◌then◌else◌}
 use Rattle.std.specs.Cmp.{IsTotalOrder, int_cmp_total, int_ranks, int_cmp_is}
 use Rattle.std.specs.declared.cmp.Ordering.{Ordering}
 use Rattle.std.specs.declared.cmp.Ordering.TheVariants.{Less, Equal, Greater}
-use Rattle.std.specs.Ordering.{MatchOrdering, int_cmp, is_lt, is_le, is_eq}
+use Rattle.std.specs.Ordering.{MatchOrdering, int_cmp}
 use Rattle.std.proofs.lemmas.Int.{ints}
-use Rattle.pf_model.specs.Fraction.{Fraction, IsParameter, IsBelow, IsAtMost, IsEqual, least_one, fraction_cmp}
+use Rattle.pf_model.specs.Fraction.{Fraction, IsParameter, IsBelow, IsEqual, least_one, fraction_cmp}
 use Rattle.pf_model.proofs.Lowest.{equal_below, below_equal, equal_both}
 use Rattle.pf_model.proofs.Unique.{below_then_at_most}
 
@@ -68,31 +67,6 @@ pub fraction_order : (x y : Fraction) → IsParameter x → IsParameter y →
 fraction_order x y px py =
     let P : Fraction → Fraction → Type 0 = λ a b. MatchOrdering (fraction_cmp x y) (IsBelow a b) (IsEqual a b) (IsBelow b a) in
     subst (P x) (stays y py) (subst (λ a. P a (compared y)) (stays x px) (ranks x y))
-
-less_by : (o : Ordering) (x y : Fraction) → MatchOrdering o (IsBelow x y) (IsEqual x y) (IsBelow y x) → Decides (is_lt o) (IsBelow x y)
-less_by Less x y m = (λ e. m, λ h. refl)
-less_by Equal x y m = (λ e. absurd cc, λ h. absurd (omega (arith, ints, m, h)))
-less_by Greater x y m = (λ e. absurd cc, λ h. absurd (omega (arith, ints, m, h)))
-
-most_by : (o : Ordering) (x y : Fraction) → MatchOrdering o (IsBelow x y) (IsEqual x y) (IsBelow y x) → Decides (is_le o) (IsAtMost x y)
-most_by Less x y m = (λ e. omega (arith, ints, m), λ h. refl)
-most_by Equal x y m = (λ e. omega (arith, ints, m), λ h. refl)
-most_by Greater x y m = (λ e. absurd cc, λ h. absurd (omega (arith, ints, m, h)))
-
-equal_by : (o : Ordering) (x y : Fraction) → MatchOrdering o (IsBelow x y) (IsEqual x y) (IsBelow y x) → Decides (is_eq o) (IsEqual x y)
-equal_by Less x y m = (λ e. absurd cc, λ h. absurd (omega (arith, ints, m, h)))
-equal_by Equal x y m = (λ e. m, λ h. refl)
-equal_by Greater x y m = (λ e. absurd cc, λ h. absurd (omega (arith, ints, m, h)))
-
--- the tests `<`, `<=` and `==` of parameters
-pub less_decides : (x y : Fraction) → IsParameter x → IsParameter y → Decides (is_lt (fraction_cmp x y)) (IsBelow x y)
-less_decides x y px py = less_by (fraction_cmp x y) x y (fraction_order x y px py)
-
-pub most_decides : (x y : Fraction) → IsParameter x → IsParameter y → Decides (is_le (fraction_cmp x y)) (IsAtMost x y)
-most_decides x y px py = most_by (fraction_cmp x y) x y (fraction_order x y px py)
-
-pub equal_decides : (x y : Fraction) → IsParameter x → IsParameter y → Decides (is_eq (fraction_cmp x y)) (IsEqual x y)
-equal_decides x y px py = equal_by (fraction_cmp x y) x y (fraction_order x y px py)
 
 -- it compares the cross products
 pub cross_order : (x y : Fraction) → IsParameter x → IsParameter y → fraction_cmp x y ≡ int_cmp (x.p *ℤ y.q) (y.p *ℤ x.q)

@@ -200,9 +200,6 @@ lowest_same x y h k e =
 pub lowest_stays : (x : Fraction) → IsParameter x → IsLowest x → lowest x ≡ x
 lowest_stays x h alone = sym (lowest_only x x h h refl alone)
 
-pub lowest_from_stays : (x : Fraction) → IsParameter x → lowest x ≡ x → IsLowest x
-lowest_from_stays x h e = let P : Fraction → Type 0 = λ y. IsLowest y in subst P e (lowest_is x h).lowest
-
 -- the order is that of the lowest terms
 
 shuffle : (a b c : ℤ) → a *ℤ (b *ℤ c) ≡ b *ℤ (a *ℤ c)
@@ -225,18 +222,6 @@ equal_below x y z px py pz e below =
     let left = shuffle y.q x.p z.q ∙ sym (mul_assoc x.p y.q z.q) ∙ ap (λ n. n *ℤ z.q) e ∙ mul_assoc y.p x.q z.q ∙ shuffle y.p x.q z.q in
     let right = shuffle y.q z.p x.q ∙ ap (λ n. z.p *ℤ n) (mul_comm y.q x.q) ∙ shuffle z.p x.q y.q in
     less_inverse y.q (x.p *ℤ z.q) (z.p *ℤ x.q) py (omega (arith, ints, more, left, right))
-
-pub below_lowest : (x y : Fraction) → IsParameter x → IsParameter y → IsBelow x y → IsBelow (lowest x) (lowest y)
-below_lowest x y px py below =
-    let l = lowest_is x px in
-    let m = lowest_is y py in
-    equal_below (lowest x) x (lowest y) l.parameter px m.parameter l.equal (below_equal x y (lowest y) px py m.parameter below (sym m.equal))
-
-pub below_from_lowest : (x y : Fraction) → IsParameter x → IsParameter y → IsBelow (lowest x) (lowest y) → IsBelow x y
-below_from_lowest x y px py below =
-    let l = lowest_is x px in
-    let m = lowest_is y py in
-    equal_below x (lowest x) y px l.parameter py (sym l.equal) (below_equal (lowest x) (lowest y) y l.parameter m.parameter py below m.equal)
 
 -- worked by hand
 lowest_row : lowest (record { p = pos 8; q = pos 2 }) ≡ record { p = pos 4; q = pos 1 }

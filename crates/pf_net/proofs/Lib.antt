@@ -1,6 +1,5 @@
 pub mod CapacityBounds
 pub mod LineSums
-pub mod Fronts
 pub mod FirstRefusal
 pub mod Built
 pub mod MirrorLemmas

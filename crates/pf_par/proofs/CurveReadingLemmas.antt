@@ -12,7 +12,7 @@ use Rattle.pf_model.specs.Network.{Network, ends_of}
 use Rattle.pf_model.specs.Answer.{Curve, IsWithinSize, IsFlowShape, IsCurveShape}
 use Rattle.pf_text.specs.Spelling.{line}
 use Rattle.pf_par.specs.Answers.{value_of, cut_fields, point_fields, segments_text, points_text, flows_text, curve_text}
-use Rattle.pf_par.specs.Outline.{segments_outline, points_outline, outline_text, values_of}
+use Rattle.pf_par.specs.Outline.{segments_outline, points_outline, values_of}
 use Rattle.pf_par.specs.CurveParts.{IsPartsShape, parts_text}
 use Rattle.pf_par.specs.declared.outline.Outline.{Outline}
 use Rattle.pf_par.specs.declared.reading_curve.Parts.{Parts}
@@ -49,18 +49,6 @@ curve_text_parts net c =
     let count = line (codes "k" ∷ decimal (length c.cuts) ∷ []) in
     ap (λ (t : List ℕ). t ++ flows_text 0 c.flows ++ codes "end\n")
     (append_assoc first count (points_text net c.cuts c.points c.flows) ∙ ap (λ (t : List ℕ). first ++ (count ++ t)) (points_same net c.cuts c.points c.flows))
-
--- the text of parts, in the order in which they are taken
-pub parts_text_is : (net : Network) (parts : Parts) (rest : List ℕ)
-    → parts_text net parts ++ rest ≡ codes "o curve\n" ++ (outline_text net parts.outline ++ (flows_text 0 parts.flows ++ (codes "end\n" ++ rest)))
-parts_text_is net parts rest =
-    let first = codes "o curve\n" in
-    let outline = outline_text net parts.outline in
-    let flows = flows_text 0 parts.flows in
-    append_assoc (first ++ outline ++ flows) (codes "end\n") rest ∙ append_assoc (first ++ outline) flows (codes "end\n" ++ rest) ∙ append_assoc first outline (flows ++ (codes "end\n" ++ rest))
-
-pub parts_same : (outline outline' : Outline) (flows flows' : List (List ℤ)) → outline ≡ outline' → flows ≡ flows' → parts_from outline flows ≡ parts_from outline' flows'
-parts_same outline outline' flows flows' e f = cc
 
 -- ---- sizes
 
@@ -109,16 +97,6 @@ curve_from points cuts flows = record { points = points; cuts = cuts; flows = fl
 -- the curve that the parts say
 abbrev pub curve_of_parts : Parts → Curve
 curve_of_parts parts = curve_from parts.outline.points parts.outline.cuts parts.flows
-
-pub curve_shape : (net : Network) (parts : Parts) → IsPartsShape net parts → IsCurveShape net (curve_of_parts parts)
-curve_shape net parts shape = record {
-  some = shape.outline.some;
-  count = shape.outline.count;
-  flow_count = shape.count;
-  points = shape.outline.points;
-  cuts = shape.outline.cuts;
-  flows = shape.flows;
-}
 
 outline_same : (points : List Fraction) (cuts : List (List Bool)) (values values' : List ℤ) → values ≡ values' → outline_from points cuts values ≡ outline_from points cuts values'
 outline_same points cuts values values' e = cc

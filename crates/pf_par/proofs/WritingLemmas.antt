@@ -1,25 +1,12 @@
 -- The lines of points, cuts and flows, printed piece by piece.
-use Rattle.std.proofs.Common.{◌≡◌, ℕ, ◌<◌, List, [], ◌∷◌, ◌++◌, length, drop, get_or, map, refl, sym, ◌∙◌, arith}
-use Rattle.std.proofs.lemmas.List.{drop_all, length-map}
-use Rattle.std.specs.Prelude.{ℤ, pos, Bool, codes}
+use Rattle.std.proofs.Common.{◌≡◌, ℕ, ◌<◌, List, [], ◌∷◌, ◌++◌, length, drop, get_or, refl, arith}
+use Rattle.std.proofs.lemmas.List.{drop_all}
+use Rattle.std.specs.Prelude.{ℤ, Bool, codes}
 use Rattle.std.specs.Fmt.{decimal}
 use Rattle.pf_model.specs.Fraction.{Fraction}
-use Rattle.pf_model.specs.Network.{Network, ends_of}
-use Rattle.pf_model.specs.Answer.{IsFlowShape}
-use Rattle.pf_frame.specs.Numbers.{IsSized}
-use Rattle.pf_net.specs.Limits.{digraph_of}
+use Rattle.pf_model.specs.Network.{Network}
 use Rattle.pf_text.specs.Spelling.{line}
 use Rattle.pf_par.specs.Answers.{point_fields, segments_text, points_text}
-
--- a flow of the right shape has a number of the right size for each arc
-pub sized : (net : Network) (flow : List ℤ) → IsFlowShape net flow → IsSized (digraph_of net) flow
-sized net flow shape =
-    let full : length flow ≡ length (map ends_of net.arcs) = shape.full ∙ sym (length-map net.arcs ends_of) in
-    record {
-      full = full;
-      low = λ i lt. (shape.each i (pos 0) (rw full lt)).low;
-      high = λ i lt. (shape.each i (pos 0) (rw full lt)).high;
-    }
 
 -- the first point, and the segments after it
 pub points_text_is : (net : Network) (sides : List (List Bool)) (points : List Fraction) (flows : List (List ℤ)) (other : Fraction) → 0 < length points → 0 < length flows

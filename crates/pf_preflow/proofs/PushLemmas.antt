@@ -1,5 +1,5 @@
 -- What a preflow and its labels keep when an amount is pushed along one arc.
-use Rattle.std.proofs.Common.{◌≡◌, ◌≢◌, ℕ, ◌+◌, ◌<◌, ◌≤◌, ◌^◌, List, length, get_or, set, refl, Bool, true, false, cond, eqb, arith, ap, sym, ◌∙◌, inl, inr}
+use Rattle.std.proofs.Common.{◌≡◌, ◌≢◌, ℕ, ◌+◌, ◌<◌, ◌≤◌, List, length, get_or, set, refl, Bool, true, false, cond, eqb, arith, ap, sym, ◌∙◌, inl, inr}
 use Rattle.std.specs.Prelude.{ℤ, ◌+ℤ◌, ◌-ℤ◌, ◌≤ℤ◌, ◌<ℤ◌, pos, ◌⊎◌, ◌==◌}
 use Rattle.std.proofs.lemmas.Int.{ints}
 use Rattle.std.proofs.lemmas.Bool.{cases_eq, eq-eqb, ne_eqb, eqb-true}
@@ -10,7 +10,7 @@ use Rattle.pf_model.specs.Flow.{IsWithin, sum_out, sum_in}
 use Rattle.pf_model.specs.Residual.{IsResidual, HasValidLabels}
 use Rattle.pf_model.proofs.Augment.{sum_where_set}
 use Rattle.pf_preflow.specs.Residual.{IsResidualArc}
-use Rattle.pf_preflow.specs.State.{FitsIn, IsWide, IsExcess, IsState, CanPush, pushed_flow, pushed_excess}
+use Rattle.pf_preflow.specs.State.{IsExcess, IsState, CanPush, pushed_flow, pushed_excess}
 
 -- ---- within the capacities
 
@@ -219,17 +219,3 @@ pushed g flow labels excess v w i back amount s a b along down c =
       low = s.low;
       excess = after;
     }
-
--- ---- bounds on what is between
-
-wide_step : (x a y : ℤ) (here : Bool) → FitsIn x → pos 0 ≤ℤ a → a <ℤ pos (2 ^ 104) → y ≡ cond here (x -ℤ a) x → IsWide y
-wide_step x a y true f some small e = let low = f.low in let high = f.high in record { low = omega (arith, ints, e, low, high); high = omega (arith, ints, e, low, high) }
-wide_step x a y false f some small e = let low = f.low in let high = f.high in record { low = omega (arith, ints, e, low, high); high = omega (arith, ints, e, low, high) }
-
-pub wide : (x : ℤ) → FitsIn x → IsWide x
-wide x f = let low = f.low in let high = f.high in record { low = omega (arith, ints, low); high = omega (arith, ints, high) }
-
-pub wide_after : (excess after : List ℤ) (v w : ℕ) (amount : ℤ) → ((u : ℕ) → u < length excess → FitsIn (at_arc excess u)) → v < length excess → w < length excess →
-    pos 0 ≤ℤ amount → amount <ℤ pos (2 ^ 104) → after ≡ set excess v (at_arc excess v -ℤ amount) → IsWide (at_arc after w)
-wide_after excess after v w amount f low low' some small e =
-    rw e (wide_step (at_arc excess w) amount _ (eqb w v) (f w low') some small (less_at excess v w amount low))

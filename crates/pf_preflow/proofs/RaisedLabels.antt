@@ -66,15 +66,6 @@ max_valid g flow labels other now proper d e full each = record {
 
 -- ---- one label more
 
-pub raise_starts : (labels other : List ℕ) (steps : ℕ) → AreRaised labels other labels 0 steps steps
-raise_starts labels other steps = record {
-  full = refl;
-  below = λ v h. absurd (omega arith);
-  behind = λ v h. refl;
-  counted = λ start before c. c;
-  less = λ g flow small w low low' full. (low, omega arith);
-}
-
 pub at_place : (labels : List ℕ) (v x u : ℕ) → v < length labels → u ≡ v → get_or (set labels v x) u 0 ≡ x
 at_place labels v x u low same = rw (same, get_or-set_same) refl
 
@@ -228,6 +219,3 @@ state_raised g flow labels other now extra i steps steps' proper small s valid l
       less = less.1;
       counted = l.counted;
     }
-
-pub state_same : (g : FlowNetwork) (flow : List ℤ) (labels : List ℕ) (extra : List ℤ) (steps : ℕ) → IsState g flow labels extra → KeepsState g flow labels labels extra steps steps
-state_same g flow labels extra steps s = record { state = s; less = omega arith; counted = λ start before c. c }

@@ -1,5 +1,5 @@
 -- The arcs out of the source are filled, those into it are emptied, and the source alone has a label.
-use Rattle.std.proofs.Common.{◌≡◌, ◌≢◌, ℕ, zero, suc, ◌+◌, ◌*◌, ◌<◌, ◌≤◌, List, length, get_or, set, replicate, refl, Bool, true, false, cond, arith, ap, sym, ◌∙◌, inl, inr, below_more}
+use Rattle.std.proofs.Common.{◌≡◌, ◌≢◌, ℕ, zero, suc, ◌+◌, ◌*◌, ◌<◌, ◌≤◌, List, length, get_or, replicate, refl, Bool, true, false, cond, arith, sym, ◌∙◌, inl, inr}
 use Rattle.std.specs.Prelude.{ℤ, ◌≤ℤ◌, pos, ◌==◌}
 use Rattle.std.proofs.lemmas.Int.{ints}
 use Rattle.std.proofs.lemmas.Bool.{cases_eq, eq-eqb, ne_eqb, eqb-true}
@@ -11,7 +11,6 @@ use Rattle.pf_model.proofs.Sums.{sum_where_most}
 use Rattle.pf_model.proofs.Start.{zeros_are_flow, at_none}
 use Rattle.pf_preflow.specs.Engine.{AreLow}
 use Rattle.pf_preflow.specs.Starting.{IsStarted, started, restarted, first_labels}
-use Rattle.pf_model.proofs.Facts.{set_here, set_there}
 
 -- what such a list of numbers keeps of an earlier one; an arc from the source to itself carries what it may
 record IsFilled (g : FlowNetwork) (flow after : List ℤ) : Type 0 where
@@ -168,17 +167,3 @@ pub record IsPartFilled (wanted : ℕ → ℤ) (old now : List ℤ) (i : ℕ) : 
   pub full : length now ≡ length old
   pub before : (k : ℕ) → k < i → at_arc now k ≡ wanted k
   pub behind : (k : ℕ) → i ≤ k → at_arc now k ≡ at_arc old k
-
-pub part_starts : (wanted : ℕ → ℤ) (old : List ℤ) → IsPartFilled wanted old old 0
-part_starts wanted old = record { full = refl; before = λ k h. absurd (omega arith); behind = λ k h. refl }
-
-pub part_next : (wanted : ℕ → ℤ) (old now after : List ℤ) (i : ℕ) (x : ℤ) → IsPartFilled wanted old now i → i < length old → x ≡ wanted i → after ≡ set now i x → IsPartFilled wanted old after (i + 1)
-part_next wanted old now after i x p low is e =
-    let full = p.full in
-    record {
-      full = ap length e ∙ length-set now i x ∙ p.full;
-      before = below_more (λ k. at_arc after k ≡ wanted k) i
-          (λ k h. set_there now after i k x e (omega (arith, h)) ∙ p.before k h)
-          (set_here now after i x e (omega (arith, full, low)) ∙ is);
-      behind = λ k h. set_there now after i k x e (omega (arith, h)) ∙ p.behind k (omega (arith, h));
-    }

@@ -36,15 +36,6 @@ sum_of_best g x vector labels best filled b =
 
 -- ---- a level more
 
--- the rows of the levels before stand before those of the next one
-rows_before : (n i j r : ℕ) → j < i → r < n → j * n + r < i * n
-rows_before n i j r low less =
-    let next : j + 1 ≤ i = omega arith in
-    let most = mul-le-mul_right n next in
-    let more = add-mul j 1 n in
-    let one = one-mul n in
-    omega (arith, most, more, one, less)
-
 rows_more : (n i : ℕ) → (i + 1) * n ≡ i * n + n
 rows_more n i = let more = add-mul i 1 n in let one = one-mul n in omega (arith, more, one)
 

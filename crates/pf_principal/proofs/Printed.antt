@@ -2,7 +2,7 @@
 use Rattle.std.proofs.Common.{◌≡◌, ℕ, ◌+◌, ◌*◌, ◌<◌, ◌≤◌, List, [], ◌∷◌, ◌++◌, length, get_or, drop, take, add-one, arith, ap, sym, ◌∙◌}
 use Rattle.std.specs.Prelude.{ℤ}
 use Rattle.std.proofs.lemmas.List.{drop_all, drop-drop, length-take, length-drop, get_or-take, get_or-drop}
-use Rattle.std.proofs.Math.Nat.{add-mul, one-mul, zero-mul, mul-le-mul_right}
+use Rattle.std.proofs.Math.Nat.{add-mul, one-mul, zero-mul}
 use Rattle.std.proofs.Math.Seq.{drop-cons}
 use Rattle.pf_model.specs.Fraction.{Fraction}
 use Rattle.pf_frame.specs.Lending.{row_at}
@@ -64,12 +64,3 @@ length_part first count rows most = let front = length-take count (drop first ro
 
 pub row_of_part : (first count : ℕ) (rows : List (List ℤ)) (r : ℕ) → r < count → row_at (take count (drop first rows)) r ≡ row_at rows (first + r)
 row_of_part first count rows r low = get_or-take count (drop first rows) r [] low ∙ get_or-drop first rows r []
-
--- those of a level are there
-pub level_rows_there : (n j k : ℕ) → j < k → j * n + n ≤ k * n
-level_rows_there n j k low =
-    let next : j + 1 ≤ k = omega arith in
-    let most = mul-le-mul_right n next in
-    let e = add-mul j 1 n in
-    let one = one-mul n in
-    omega (arith, most, e, one)

@@ -111,10 +111,3 @@ value_seen g before before' steps i item d e is low v =
     let P : List ℕ → Type 0 = λ b. HasValue g b (get_or steps i d) in
     let Q : Step → Type 0 = λ s. HasValue g before s in
     subst P e (subst Q (is ∙ get_or_default steps i item d low) v)
-
-pub value_back : (g : WeightedGraph) (before before' : List ℕ) (steps : List Step) (i : ℕ) (item : Step) → before ≡ before' → item ≡ get_or steps i item →
-    HasValue g before' (get_or steps i item) → HasValue g before item
-value_back g before before' steps i item e is v =
-    let P : List ℕ → Type 0 = λ b. HasValue g b item in
-    let Q : Step → Type 0 = λ s. HasValue g before' s in
-    subst P (sym e) (subst Q (sym is) v)

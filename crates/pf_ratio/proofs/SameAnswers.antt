@@ -15,8 +15,6 @@ use Rattle.pf_text.proofs.TextLines.{ArePlain, lines_text, same_lines, signed_pl
 use Rattle.pf_ratio.specs.Answer.{IsAnswerShape, answer_text}
 use Rattle.pf_ratio.specs.Laws.{AreSameParts}
 
--- ---- parts
-
 -- ---- the lines of an answer, after the word of its fraction
 
 abbrev number_fields : Fraction → List (List ℕ)

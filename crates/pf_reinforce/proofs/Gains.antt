@@ -74,9 +74,3 @@ whole_cost prices numbers i x full all c =
 
 pub gain_whole : (first vector added : List ℤ) (i : ℕ) → i ≡ length vector → IsGainSoFar first vector added i → IsGain first vector added
 gain_whole first vector added i e g = record { full = g.full ∙ e; is = λ k low. g.is k (omega (arith, low, e)) }
-
-pub gain_begins : (first vector added : List ℤ) → added ≡ [] → IsGainSoFar first vector added 0
-gain_begins first vector added e = record { full = ap length e; is = λ k low. absurd (omega (arith, low)) }
-
-pub cost_begins : (prices numbers : List ℤ) → IsCost prices numbers 0 (pos 0)
-cost_begins prices numbers = record { sum_is = refl; low = omega (arith, ints); high = omega (arith, ints) }

@@ -117,9 +117,6 @@ changes_text_at p j prices selections other low less =
     ap (λ (xs : List Fraction). changes_text p j (selection_at selections j) xs (drop (j + 1) selections)) (drop_next prices j other low)
     ∙ ap (λ (xs : List (List Bool)). changes_text p j (selection_at selections j) (get_or prices j other ∷ drop (j + 1) prices) xs) (drop_next selections (j + 1) [] less)
 
-pub no_changes : (p : SelectionProblem) (j : ℕ) (before : List Bool) (selections : List (List Bool)) → changes_text p j before [] selections ≡ []
-no_changes p j before selections = refl
-
 -- the first selection, and the prices with the others
 pub selections_text_is : (p : SelectionProblem) (prices : List Fraction) (selections : List (List Bool)) → 0 < length selections →
     side_line (codes "s") (0 ∷ []) [] (selection_at selections 0) ++ changes_text p 0 (selection_at selections 0) prices (drop 1 selections) ≡ selections_text p prices selections

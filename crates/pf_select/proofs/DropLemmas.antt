@@ -1,15 +1,14 @@
 -- Steps of the search for the dropped parts and products.
 use Rattle.std.proofs.Common.{◌≡◌, ℕ, ◌+◌, ◌-◌, ◌<◌, ◌≤◌, List, length, get_or, set, refl, Bool, true, false, cond, ◌||◌, arith, sym, ◌∙◌, inl, inr, subst}
 use Rattle.std.specs.Prelude.{ℤ, ◌<ℤ◌, pos}
-use Rattle.std.proofs.lemmas.Int.{ints}
 use Rattle.std.proofs.lemmas.Bool.{cases_eq, false≢true}
 use Rattle.std.proofs.lemmas.List.{length-set}
 use Rattle.pf_model.specs.Cut.{has, at_arc, size}
 use Rattle.pf_model.specs.Fraction.{Fraction}
 use Rattle.pf_model.proofs.Search.{has-set, has-set_new, size-set, size-le-length}
 use Rattle.pf_select.specs.Problem.{SelectionProblem, product_at, part_at}
-use Rattle.pf_select.specs.Certificate.{KeepsRules, IsDropped}
-use Rattle.pf_select.specs.Dropping.{HasSlacks, IsForced, KeepsNeed, IsNeedDropped, IsRound, AreCheap, IsUnmarked, HasCheap, marked}
+use Rattle.pf_select.specs.Certificate.{KeepsRules}
+use Rattle.pf_select.specs.Dropping.{KeepsNeed, IsNeedDropped, IsRound, marked}
 
 -- one need
 pub dropped_by_part : (product part : ℕ) (charge : ℤ) (parts products : List Bool) → product < length products → has parts part ≡ true →
@@ -127,25 +126,6 @@ round_all p charges parts parts' products products' k a done r = record {
   kept = λ off j less. r.kept off j (omega (arith, less, done));
 }
 
--- rounds
-pub start_forced : (p : SelectionProblem) (x : Fraction) (charges on_parts by_products : List ℤ) (count : ℕ) (parts products : List Bool) → count ≡ length p.costs →
-    HasSlacks p x charges on_parts by_products → AreCheap on_parts count parts → IsUnmarked products → IsForced p x charges parts products
-start_forced p x charges on_parts by_products count parts products same s b u = record {
-  parts_forced = λ q r keeps v h.
-      let low : v < length p.costs = let l = b.only v h in omega (arith, l, same) in
-      let more = b.above v h in
-      let e = s.parts v low in
-      keeps.cheap v low (omega (arith, ints, more, e));
-  products_forced = λ q r keeps v h. absurd (false≢true (sym (u.none v) ∙ h));
-}
-
-pub start_cheap : (slacks : List ℤ) (count n : ℕ) (marks : List Bool) → count ≡ n → AreCheap slacks count marks → HasCheap slacks n marks
-start_cheap slacks count n marks same b = record { cheap = λ i low more. b.cheap i (omega (arith, low, same)) more }
-
-pub cheap_stays : (slacks : List ℤ) (n : ℕ) (marks marks' : List Bool) → HasCheap slacks n marks → ((v : ℕ) → has marks v ≡ true → has marks' v ≡ true) →
-    HasCheap slacks n marks'
-cheap_stays slacks n marks marks' h more = record { cheap = λ i low above. more i (h.cheap i low above) }
-
 smaller_step : (result changed : Bool) (l l' r r' m m' n n' : ℕ) → changed ≡ true → l' ≡ l → r' ≡ r → (m + n) + cond result 1 0 ≤ m' + n' → m' ≤ l' → n' ≤ r' →
     ((l' - m') + (r' - n')) + cond result 1 0 < ((l - m) + (r - n)) + cond changed 1 0
 smaller_step true true l l' r r' m m' n n' e same same' grows most most' = omega arith
@@ -159,16 +139,3 @@ pub round_smaller : (parts parts' products products' : List Bool) (changed resul
 round_smaller parts parts' products products' changed result e same same' grows =
     smaller_step result changed (length parts) (length parts') (length products) (length products') (size parts) (size parts') (size products) (size products')
     e same same' grows (size-le-length parts') (size-le-length products')
-
-pub dropped_at_end : (p : SelectionProblem) (x : Fraction) (charges on_parts by_products : List ℤ) (parts products : List Bool) →
-    HasSlacks p x charges on_parts by_products → IsForced p x charges parts products → HasCheap on_parts (length p.costs) parts →
-    ((k : ℕ) → k < length p.needs → KeepsNeed (product_at p k) (part_at p k) (at_arc charges k) parts products) → IsDropped p x charges parts products
-dropped_at_end p x charges on_parts by_products parts products s f cheap kept = record {
-  rules = record {
-    cheap = λ i low less. let e = s.parts i low in cheap.cheap i low (omega (arith, ints, less, e));
-    needing = λ k low. (kept k low).needing;
-    charging = λ k low. (kept k low).charging;
-  };
-  least_parts = f.parts_forced;
-  least_products = f.products_forced;
-}

@@ -5,7 +5,7 @@ use Rattle.std.proofs.lemmas.Int.{ints}
 use Rattle.pf_model.specs.Cut.{has}
 use Rattle.pf_select.specs.Problem.{part_at, IsProperPart}
 use Rattle.pf_select.specs.Certificate.{CertifiesPrice}
-use Rattle.pf_select.specs.Worked.{fraction, both, pair, whole_product, free_product, parallel_needs, WholeProduct, ChargeAboveGain, SmallerSelection, FreeProduct, ParallelNeeds}
+use Rattle.pf_select.specs.Worked.{fraction, both, pair, whole_product, free_product, parallel_needs, WholeProduct, SmallerSelection, FreeProduct, ParallelNeeds}
 
 one : (P : ℕ → Type 0) → P 0 → (k : ℕ) → k < 1 → P k
 one P first zero low = first
@@ -20,11 +20,6 @@ none : (v : ℕ) → has (both false false) v ≡ true → ⊥
 none zero h = cc
 none (suc zero) h = cc
 none (suc (suc v)) h = cc
-
-only_first : (P : ℕ → Type 0) → P 0 → (v : ℕ) → has (both true false) v ≡ true → P v
-only_first P first zero h = first
-only_first P first (suc zero) h = cc
-only_first P first (suc (suc v)) h = cc
 
 only_second : (P : ℕ → Type 0) → P 1 → (v : ℕ) → has (both false true) v ≡ true → P v
 only_second P second zero h = cc
@@ -76,9 +71,6 @@ whole = record {
   each = one (λ j. _) whole_price;
   equal = one (λ j. _) refl;
 }
-
-pub above : ChargeAboveGain
-above c = let h = (c.each 0 (omega arith)).charges_are.product_high 0 (omega arith) in omega (arith, ints, h)
 
 pub smaller : SmallerSelection
 smaller best greatest = let h = greatest.greatest (both true true) best 0 refl in cc

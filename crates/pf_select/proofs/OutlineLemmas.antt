@@ -1,5 +1,5 @@
 -- Selections and prices, taken from the front of a text one after the other.
-use Rattle.std.proofs.Common.{◌≡◌, ℕ, suc, ◌+◌, ◌<◌, List, [], ◌∷◌, ◌++◌, length, map, Bool, refl, sym, ap, subst, ◌∙◌, append_assoc, arith}
+use Rattle.std.proofs.Common.{◌≡◌, ℕ, suc, ◌+◌, List, [], ◌∷◌, ◌++◌, length, map, Bool, refl, sym, ap, subst, ◌∙◌, append_assoc, arith}
 use Rattle.std.specs.Prelude.{ℤ, All, codes}
 use Rattle.std.proofs.lemmas.List.{length-map, map_push}
 use Rattle.std.proofs.lemmas.List.Elements.{All-cons}
@@ -8,7 +8,7 @@ use Rattle.pf_text.specs.Spelling.{side_line}
 use Rattle.pf_lines.specs.declared.taking.Valued.{Valued}
 use Rattle.pf_lines.proofs.ItemsTaken.{Items}
 use Rattle.pf_lines.proofs.PartsTaken.{Parts, PartsStand, HasParts, parts_text}
-use Rattle.pf_select.specs.Problem.{SelectionProblem, IsBoundedProblem, selection_at}
+use Rattle.pf_select.specs.Problem.{SelectionProblem, IsBoundedProblem}
 use Rattle.pf_select.specs.Text.{selections_text}
 use Rattle.pf_select.specs.Outline.{IsChange, change_lines, all_changes, outline_text, outline_of, IsOutline, IsOutlineShape, HasWorths, IsSelectionsShape}
 use Rattle.pf_select.specs.declared.outline.Change.{Change}
@@ -92,9 +92,6 @@ outline_ends width count old now j o taken all = record {
 }
 
 -- ---- what was taken, with the worths
-
-length_sets : (p : SelectionProblem) (o : Outline) (k : ℕ) → IsOutlineShape p o → k < length o.prices → length (selection_at o.selections k) ≡ length p.costs
-length_sets p o k shape low = let count = shape.count in shape.selections k [] (omega (arith, count, low))
 
 pub shape_of_outline : (p : SelectionProblem) (width count : ℕ) (o : Outline) (old new : List ℕ) → width ≡ length p.costs → IsOutline width count o old new → IsOutlineShape p o
 shape_of_outline p width count o old new e out =
@@ -188,8 +185,3 @@ split_worths p o first changes e h =
 pub split_parts : (o : Outline) (first : List Bool) (changes : List Change) (prices : List Fraction) (selections : List (List Bool)) → o ≡ outline_of first changes →
     map (λ (x : Change). x.point.at) changes ≡ prices → first ∷ map (λ (x : Change). x.set) changes ≡ selections → (o.prices ≡ prices) × (o.selections ≡ selections)
 split_parts o first changes prices selections e f g = (ap (λ (x : Outline). x.prices) e ∙ f, ap (λ (x : Outline). x.selections) e ∙ g)
-
--- ---- the worths, one after the other
-
-pub worths_none : (p : SelectionProblem) (o : Outline) → HasWorths p o 0
-worths_none p o = record { each = λ j low. absurd (omega (arith, low)) }

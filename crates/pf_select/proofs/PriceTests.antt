@@ -1,67 +1,24 @@
 -- The tests of a schedule, one by one, against its certificate.
-use Rattle.std.proofs.Common.{◌≡◌, ℕ, suc, ◌+◌, ◌<◌, ◌^◌, List, [], length, get_or, Bool, true, false, arith, ap, sym, ◌∙◌, subst, add-one}
-use Rattle.std.specs.Prelude.{ℤ, pos, All}
+use Rattle.std.proofs.Common.{◌≡◌, ℕ, suc, ◌+◌, ◌<◌, List, [], length, get_or, Bool, true, arith, ap, sym, ◌∙◌, subst, add-one}
+use Rattle.std.specs.Prelude.{ℤ}
 use Rattle.std.proofs.lemmas.List.Elements.{All-get_or}
 use Rattle.std.proofs.lemmas.List.{get_or_default}
-use Rattle.pf_model.specs.Fraction.{Fraction, IsParameter}
-use Rattle.pf_model.specs.Answer.{IsFractionShape, IsWithinSize}
+use Rattle.pf_model.specs.Fraction.{Fraction}
 use Rattle.pf_model.specs.Cut.{has}
 use Rattle.pf_model.proofs.Balance.{inside}
 use Rattle.pf_model.proofs.Unique.{same_sides}
 use Rattle.pf_select.specs.Problem.{SelectionProblem, worth, zero_price, price_at, selection_at}
-use Rattle.pf_select.specs.Certificate.{ScheduleAnswer, CertifiesPrice, charges_at, CertifiesSchedule, IsNeeded}
-use Rattle.pf_select.specs.Right.{IsChargesShape, IsScheduleShape}
-use Rattle.pf_select.specs.Tests.{PricesRise, SelectionsFall, AreNeeded, AreSizes, AreNonnegative, CertifiesChange, CertifiesChanges, BeginsNeeded}
-
-pub sizes_are : (p : SelectionProblem) (charges : List ℤ) → IsChargesShape p charges → AreNonnegative charges (length charges) → AreSizes charges (length charges)
-sizes_are p charges s n = record {
-  low = n.each;
-  high = λ k low. (All-get_or (IsWithinSize (2 ^ 104)) charges k (pos 0) low s.each).high;
-}
+use Rattle.pf_select.specs.Certificate.{ScheduleAnswer, CertifiesPrice, charges_at, IsNeeded}
+use Rattle.pf_select.specs.Right.{IsScheduleShape}
+use Rattle.pf_select.specs.Tests.{AreNeeded, CertifiesChange, BeginsNeeded}
 
 -- the whole
-
-price_shape : (prices : List Fraction) (j : ℕ) → All IsFractionShape prices → j < length prices → IsParameter (price_at prices (suc j))
-price_shape prices j shapes low = (All-get_or IsFractionShape prices j zero_price low shapes).bounds.parameter
 
 pub selection_full : (p : SelectionProblem) (answer : ScheduleAnswer) (j : ℕ) → IsScheduleShape p answer → j < suc (length answer.prices) →
     length (selection_at answer.selections j) ≡ length p.costs
 selection_full p answer j shape low =
     let count = shape.count in
     All-get_or (λ set. length set ≡ length p.costs) answer.selections j [] (omega (arith, low, count)) shape.selections
-
-pub charges_shape : (p : SelectionProblem) (answer : ScheduleAnswer) (j : ℕ) → IsScheduleShape p answer → j < length answer.prices →
-    IsChargesShape p (charges_at answer.charges j)
-charges_shape p answer j shape low =
-    let count = shape.charges_count in
-    All-get_or (IsChargesShape p) answer.charges j [] (omega (arith, low, count)) shape.charges
-
-pub all_certified : (p : SelectionProblem) (answer : ScheduleAnswer) → IsScheduleShape p answer → PricesRise answer.prices →
-    SelectionsFall answer.selections (length answer.prices) →
-    ((i : ℕ) → i < length (selection_at answer.selections (length answer.prices)) → has (selection_at answer.selections (length answer.prices)) i ≡ false) →
-    BeginsNeeded p answer.selections → CertifiesChanges p answer.prices answer.selections answer.charges →
-    CertifiesSchedule p answer.prices answer.selections answer.charges
-all_certified p answer shape rise fall last begins changes = record {
-  count = shape.count;
-  charges_count = shape.charges_count;
-  full = λ j low. selection_full p answer j shape low;
-  parameters = λ j low. price_shape answer.prices j shape.prices low;
-  rise = rise.each;
-  fall = fall.each;
-  first_needed = begins.first_needed;
-  needed_first = begins.needed_first;
-  last_empty = λ i low. last i (let e = selection_full p answer (length answer.prices) shape (omega arith) in omega (arith, low, e));
-  each = λ j low. (changes.each j low).each;
-  equal = λ j low. (changes.each j low).equal;
-}
-
-pub changes_of : (p : SelectionProblem) (answer : ScheduleAnswer) → CertifiesSchedule p answer.prices answer.selections answer.charges →
-    CertifiesChanges p answer.prices answer.selections answer.charges
-changes_of p answer c = record { each = λ j low. record { each = c.each j low; equal = c.equal j low } }
-
-pub empty_of : (p : SelectionProblem) (answer : ScheduleAnswer) → CertifiesSchedule p answer.prices answer.selections answer.charges →
-    (i : ℕ) → i < length (selection_at answer.selections (length answer.prices)) → has (selection_at answer.selections (length answer.prices)) i ≡ false
-empty_of p answer c i low = c.last_empty i (let e = c.full (length answer.prices) (omega arith) in omega (arith, low, e))
 
 -- the needed parts
 needed_before : (p : SelectionProblem) (needs : List (ℕ × ℕ)) (marks : List Bool) (i : ℕ) → needs ≡ p.needs → AreNeeded needs (length needs) marks →

@@ -47,9 +47,6 @@ lowered_at sums u v x low = elim (cases_eq v u) [
   | inr other ↦ rw (get_or-set_other, ne_eqb u v (λ e. other (sym e))) (omega (arith, ints))
 ]
 
-pub taken_begins : (key : ℕ × ℕ → ℕ) (needs : List (ℕ × ℕ)) (charges sums : List ℤ) → IsTaken key needs charges 0 sums sums
-taken_begins key needs charges sums = record { full = refl; each = λ v low. omega (arith, ints) }
-
 pub taken_more : (key : ℕ × ℕ → ℕ) (needs : List (ℕ × ℕ)) (charges sums mid sums' : List ℤ) (k u : ℕ) (x : ℤ) → IsTaken key needs charges k sums mid →
     length charges ≡ length needs → k < length needs → u ≡ key (get_or needs k (0, 0)) → u < length sums →
     sums' ≡ set mid u (at_arc mid u -ℤ x) → x ≡ at_arc charges k → IsTaken key needs charges (k + 1) sums sums'

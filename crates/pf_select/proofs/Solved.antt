@@ -1,5 +1,5 @@
 -- What is read off a curve, one item after the other, and that it is the best schedule.
-use Rattle.std.proofs.Common.{◌≡◌, ℕ, suc, ◌+◌, ◌-◌, ◌^◌, ◌<◌, List, [], ◌∷◌, ◌++◌, length, get_or, take, drop, map, refl, Bool, false, not, arith, ap, sym, ◌∙◌, subst, add-one}
+use Rattle.std.proofs.Common.{◌≡◌, ℕ, suc, ◌+◌, ◌-◌, ◌^◌, ◌<◌, List, [], ◌∷◌, ◌++◌, length, get_or, take, drop, map, Bool, false, not, arith, ap, sym, ◌∙◌, subst, add-one}
 use Rattle.std.specs.Prelude.{ℤ, All}
 use Rattle.std.specs.List.{slice_range}
 use Rattle.std.proofs.lemmas.List.{length-drop, get_or_default, get_or-take, get_or-drop, map_more}
@@ -12,7 +12,7 @@ use Rattle.pf_select.specs.Problem.{SelectionProblem, IsBoundedProblem, zero_pri
 use Rattle.pf_select.specs.Certificate.{ScheduleAnswer, CertifiesSchedule}
 use Rattle.pf_select.specs.Right.{IsChargesShape, IsScheduleShape}
 use Rattle.pf_select.specs.Reduction.{select_net, selection_of, charges_of}
-use Rattle.pf_select.specs.Carried.{ArePrices, AreSelections, AreCarried, IsCarriedBack, AreWide, AreAllWide}
+use Rattle.pf_select.specs.Carried.{ArePrices, AreSelections, AreCarried, IsCarriedBack, AreAllWide}
 use Rattle.pf_select.proofs.Soundness.{certificate_proves}
 use Rattle.pf_select.proofs.NetArcs.{arcs_full, length_charges}
 use Rattle.pf_select.proofs.NetCuts.{length_selection}
@@ -29,9 +29,6 @@ outside_more cut i old new x low before step here =
     step ∙ ap (λ l. l ++ x ∷ []) before ∙ ap (λ b. map not (take i (drop 1 cut)) ++ b ∷ []) (here ∙ ap not (sym there))
     ∙ sym (map_more not (drop 1 cut) i false (omega (arith, full, low)))
 
-pub prices_begin : (p : SelectionProblem) (points : List Fraction) → ArePrices p points [] 0
-prices_begin p points = record { full = refl; each = λ j low. absurd (omega (arith, low)) }
-
 pub price_more : (p : SelectionProblem) (points shown old new : List Fraction) (j : ℕ) (x : Fraction) → ArePrices p points old j → shown ≡ points →
     j + 1 < length shown → x ≡ get_or shown (j + 1) x → new ≡ old ++ x ∷ [] → ArePrices p points new (j + 1)
 price_more p points shown old new j x a same low is step =
@@ -43,18 +40,12 @@ price_more p points shown old new j x a same low is step =
       each = item_more old new x zero_price j (λ k. point_at (select_net p) points (suc k)) a.full step a.each here;
     }
 
-pub selections_begin : (p : SelectionProblem) (cuts : List (List Bool)) → AreSelections p cuts [] 0
-selections_begin p cuts = record { full = refl; each = λ j low. absurd (omega (arith, low)) }
-
 pub selection_more : (p : SelectionProblem) (cuts old new : List (List Bool)) (j : ℕ) (set cut : List Bool) → AreSelections p cuts old j →
     cut ≡ cut_at cuts j → set ≡ selection_of p cut → new ≡ old ++ set ∷ [] → AreSelections p cuts new (j + 1)
 selection_more p cuts old new j set cut a same e step = record {
   full = more_full old new set j a.full step;
   each = item_more old new set [] j (λ k. selection_of p (cut_at cuts k)) a.full step a.each (e ∙ ap (selection_of p) same);
 }
-
-pub carried_begin : (p : SelectionProblem) (flows : List (List ℤ)) → AreCarried p flows [] 0
-carried_begin p flows = record { full = refl; each = λ j low. absurd (omega (arith, low)) }
 
 pub slice_is_charges : (p : SelectionProblem) (flow : List ℤ) (parts needs : ℕ) → parts ≡ length p.costs → needs ≡ length p.needs →
     slice_range flow parts (parts + needs) ≡ charges_of p flow
@@ -68,14 +59,6 @@ charges_more p flows old new j row flow a same e step = record {
   full = more_full old new row j a.full step;
   each = item_more old new row [] j (λ k. charges_of p (flow_at flows (suc k))) a.full step a.each
       (e ∙ ap (charges_of p) (same ∙ ap (flow_at flows) (add-one j)));
-}
-
--- widths
-pub cuts_wide : (p : SelectionProblem) (net : Network) (curve : Curve) → net ≡ select_net p → IsCurveShape net curve → AreWide p curve.cuts
-cuts_wide p net curve same s = record {
-  each = λ j low.
-      let P : Network → Type 0 = λ n. All (IsNetworkCut n) curve.cuts in
-      (All-get_or (IsNetworkCut (select_net p)) curve.cuts j [] low (subst P same s.cuts)).full;
 }
 
 pub flows_wide : (p : SelectionProblem) (net : Network) (curve : Curve) → net ≡ select_net p → IsCurveShape net curve → AreAllWide p curve.flows

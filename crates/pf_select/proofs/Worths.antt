@@ -42,10 +42,6 @@ pub record IsMissing (needs : List (ℕ × ℕ)) (set : List Bool) (j : ℕ) : T
   pub product : (get_or needs need (0, 0)).0 ≡ j
   pub out : has set (get_or needs need (0, 0)).1 ≡ false
 
-record IsMissingHere (need : ℕ × ℕ) (set : List Bool) (j : ℕ) : Type 0 where
-  pub product : need.0 ≡ j
-  pub out : has set need.1 ≡ false
-
 missing_here : (n j : ℕ) (held : Bool) → (not (eqb n j) || held) ≡ false → (n ≡ j) × (held ≡ false)
 missing_here n j held e = grind (arith, nat_tests)
 

@@ -10,7 +10,7 @@ use Rattle.pf_graph.specs.Best.{crossing_of, IsStrength}
 use Rattle.pf_forest.proofs.Law.{forest_is_best}
 use Rattle.pf_strength.specs.Strength.{StrengthAnswer, CertifiesStrength}
 
--- the partition_value of a partition as a difference
+-- the value of a partition as a difference
 pub worth_is : (c q p : ℤ) (k : ℕ) → (c *ℤ q) +ℤ ((pos 1 -ℤ pos k) *ℤ p) ≡ (q *ℤ c) -ℤ (p *ℤ (pos k -ℤ pos 1))
 worth_is c q p k =
     let a = mul_comm c q in

@@ -50,7 +50,7 @@ ratio_below g x labels graph r two =
     let one' : x.q *ℤ pos 1 ≡ x.q = omega (arith, ints) in
     omega (arith, ints, a, b, c, d, e, one, one', parameter)
 
--- what is partition_value less than nothing at p/q has a smaller ratio
+-- a partition whose value at p/q is below 0 has a smaller ratio
 below_of : (p q p' q' c k1 : ℤ) → pos 0 <ℤ k1 → pos 1 ≤ℤ q' → (q *ℤ c) <ℤ (p *ℤ k1) → q' *ℤ c ≡ p' *ℤ k1 → (p' *ℤ q) <ℤ (p *ℤ q')
 below_of p q p' q' c k1 some parameter less same =
     let e1 = swap k1 p q' in
@@ -66,7 +66,7 @@ below_of p q p' q' c k1 some parameter less same =
     by_lt_z (p' *ℤ q) (p *ℤ q') (λ here. here)
     (λ back. absurd (let most = mul_most k1 (p *ℤ q') (p' *ℤ q) (omega (arith, ints, some)) back in omega (arith, ints, e1, e2, e3, f1, f2, f3, f4, f5, f6, more, most)))
 
--- the partition_value of a partition at its own ratio
+-- the value of a partition at its own ratio
 own_worth : (g : WeightedGraph) (x : Fraction) (labels : List ℕ) → HasRatio g x labels → partition_value g labels x ≡ pos 0
 own_worth g x labels r =
     let e = worth_is (crossing_of g labels) x.q x.p (parts labels) in
@@ -94,7 +94,7 @@ step_begins g x labels forest found graph partition single two ratio same level 
       found_is = is;
     }
 
--- a partition that is partition_value less than nothing has at least two parts
+-- a partition whose value is below 0 has at least two parts
 two_of : (g : WeightedGraph) (x : Fraction) (labels : List ℕ) → IsWeightedGraph g → IsParameter x → 0 < length labels → partition_value g labels x <ℤ pos 0 → 2 ≤ parts labels
 two_of g x labels graph parameter some less =
     let most = parts_some labels some in

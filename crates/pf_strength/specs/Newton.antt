@@ -19,7 +19,7 @@ pub record IsBestAbove (g : WeightedGraph) (x : Fraction) (labels : List ℕ) : 
   pub below : IsBelow x above
   pub best : IsBest g above labels
 
--- a step: the forest is filled at the ratio of the best partition so far, and the partition_value of its own partition there is known
+-- a step: the forest is filled at the ratio of the best partition so far, and the value of its own partition there is known
 pub record IsStep (g : WeightedGraph) (x : Fraction) (labels : List ℕ) (forest : ForestState) (found : ℤ) : Type 0 where
   pub partition : IsPartition g.nodes labels
   pub two : 2 ≤ parts labels

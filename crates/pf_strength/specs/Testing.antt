@@ -5,7 +5,7 @@ use Rattle.pf_graph.specs.WeightedGraph.{WeightedGraph}
 use Rattle.pf_graph.specs.Labels.{parts}
 use Rattle.pf_graph.specs.Best.{partition_value}
 
--- at least two parts, and partition_value 0 at a level that is not below 0
+-- at least two parts, and the value 0 at a level that is not below 0
 pub record IsRatio (g : WeightedGraph) (x : Fraction) (labels : List ℕ) : Type 0 where
   pub two : 2 ≤ parts labels
   pub level : pos 0 ≤ℤ x.p

@@ -21,7 +21,7 @@ fn ratio(graph: &Graph, partition: &Partition) -> Rat
     Rat::new(crossing, i128::from(parts) - 1)
 }
 
-// What a partition is partition_value at a level: `q crossing - p (parts - 1)`.
+// The value of a partition at a level `p/q`: `q crossing - p (parts - 1)`.
 pub(crate) fn partition_value(graph: &Graph, partition: &Partition, level: &Rat) -> i128
     requires { length partition.now ≡ graph.now.nodes }
     ensures { result ≡ partition_value graph.now partition.now level.now }

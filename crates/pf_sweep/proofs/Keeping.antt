@@ -157,10 +157,6 @@ row_right net x at value cut b inside k s is bounds line_bounds e =
 
 -- ---- the number of nodes
 
-size_step : (here : Bool) (n m : ℕ) → m ≡ n + cond here 1 0 → m ≤ n + 1
-size_step true n m e = omega (arith, e)
-size_step false n m e = omega (arith, e)
-
 size_after : (side : List Bool) (i : ℕ) → i < length side → size (take (suc i) side) ≡ size (take i side) + cond (get_or side i false) 1 0
 size_after [] i low = absurd (omega (arith, low))
 size_after (true ∷ side) zero low = refl

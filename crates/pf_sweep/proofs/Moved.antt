@@ -18,10 +18,6 @@ pub record StandsBefore (items : List ℕ) (k i : ℕ) : Type 0 where
   pub before : place < k
   pub is : get_or items place 0 ≡ i
 
--- one of two
-abbrev pub AtTail : Digraph → ℕ → ℕ → Type 0
-AtTail g s i = tail_of g i ≡ s
-
 pub moving_begins : (g : Digraph) (labels : List ℕ) (s : ℕ) (wanted caps flow : List ℤ) (items : List ℕ) → length caps ≡ length g.ends → length flow ≡ length g.ends →
     IsMoving g labels s wanted caps flow caps flow (StandsBefore items 0)
 moving_begins g labels s wanted caps flow items a b = record {

@@ -11,7 +11,7 @@ use Rattle.pf_model.specs.Answer.{Row}
 use Rattle.pf_model.proofs.Integers.{add_mul, mul_assoc, mul_comm, mul_most, mul_nonneg, mul_most_inverse}
 use Rattle.pf_sweep.specs.Parameters.{of_units, most_unit, HasNearEnds, is_too_fine, unit_of, step_units, sweep_parameter}
 use Rattle.pf_sweep.specs.Swept.{Swept, IsAdvanced, network_of_sweep}
-use Rattle.pf_sweep.specs.Rows.{IsRightRow, IsUnderway, IsAhead, IsSeen, AreFirstRows, AreRows, row_at}
+use Rattle.pf_sweep.specs.Rows.{IsRightRow, IsUnderway, IsAhead, IsSeen, AreFirstRows, row_at}
 use Rattle.pf_sweep.proofs.Units.{turned, some_product, start_near}
 
 -- a ((b c) k) in another order
@@ -77,9 +77,6 @@ first_step net k at m e =
     let up = mul_most_inverse q (a *ℤ pos k) at (omega (arith, ints, lq)) (omega (arith, ints, x, y, e, left)) in
     let none : d *ℤ pos 0 ≡ pos 0 = omega (arith, ints) in
     omega (arith, ints, down, up, none)
-
-pub rows_begin : (net : Network) (k : ℕ) (rows : List Row) → rows ≡ [] → AreFirstRows net k 0 rows
-rows_begin net k rows e = record { count_is = ap length e; each = λ j low. let f = ap length e in absurd (omega (arith, low, f)) }
 
 pub rows_more : (net : Network) (k j : ℕ) (old new : List Row) (row : Row) → AreFirstRows net k j old → new ≡ old ++ row ∷ [] → IsRightRow net (sweep_parameter net k j) row →
     AreFirstRows net k (j + 1) new
@@ -177,9 +174,6 @@ seen_earlier net k i j y least m order s =
     let later = s.later in
     record { inside = s.inside; later = omega (arith, ints, more, later); value = s.value }
 
-pub underway_later : (net : Network) (k j : ℕ) (sweep : Swept) (rows : List Row) (p : ℤ) → IsUnderway net k j sweep rows → p ≡ step_units net k j → sweep.at ≤ℤ p
-underway_later net k j sweep rows p w e = let at = w.at_most in omega (arith, ints, at, e)
-
 pub underway_more : (net : Network) (k j : ℕ) (sweep after last : Swept) (rows rows' : List Row) (p : ℤ) (steps steps' : ℕ) → IsMonotone net → IsUnderway net k j sweep rows → j ≤ k → p ≡ step_units net k j →
     IsAdvanced sweep after p steps steps' → last ≡ after → AreFirstRows net k (j + 1) rows' → IsUnderway net k (j + 1) last rows'
 underway_more net k j sweep after last rows rows' p steps steps' m w low e a same r =
@@ -209,9 +203,6 @@ underway_passed net k j sweep rows rows' row p m w low e added right =
       most = omega (arith, low);
       held = rows_more net k j rows rows' row w.held added (rw (w.net_is, w.unit_is, e) at right);
     }
-
-pub underway_ends : (net : Network) (k j : ℕ) (sweep : Swept) (rows : List Row) → IsUnderway net k j sweep rows → j ≡ k + 1 → AreRows net k rows
-underway_ends net k j sweep rows w e = let P : ℕ → Type 0 = λ n. AreFirstRows net k n rows in subst P e w.held
 
 -- ---- too fine, or not
 

@@ -15,7 +15,7 @@ use Rattle.pf_frame.specs.declared.scratch.Scratch.{Scratch}
 use Rattle.pf_frame.specs.Scratch.{Serves, KeepsPlaces}
 use Rattle.pf_frame.specs.Numbers.{IsSized}
 use Rattle.pf_net.specs.Limits.{IsBuilt, digraph_of}
-use Rattle.pf_preflow.specs.Engine.{Engined, AreLow, IsFor}
+use Rattle.pf_preflow.specs.Engine.{Engined, AreLow}
 use Rattle.pf_preflow.specs.Labels.{changed, rises}
 use Rattle.pf_sweep.specs.declared.parameter.Parameter.{Parameter}
 use Rattle.pf_sweep.specs.declared.sweep.KeptCut.{KeptCut}
@@ -29,10 +29,6 @@ abbrev pub swept_of : Network → ℤ → ℤ → List ℤ → List ℕ → Swep
 swept_of net unit at flow labels = record { net = net; unit = unit; at = at; flow = flow; labels = labels }
 
 -- ---- it is made
-
-pub engine_of : (net : Network) (frame : Digraph) (engine : Engined) (s t : ℕ) → frame ≡ digraph_of net → s ≡ net.source → t ≡ net.sink → IsFor engine frame → engine.source ≡ s → engine.sink ≡ t →
-    IsEngineOf net engine
-engine_of net frame engine s t e f g fits source sink = record { fits = subst (IsFor engine) e fits; source = source ∙ f; sink = sink ∙ g }
 
 pub sweep_of : (net : Network) (unit at : ℤ) (engine : Engined) (scratch : Scratch) (caps flow : List ℤ) (cut : KeptCut) → IsBuilt net → pos 1 ≤ℤ unit → unit ≤ℤ pos most_unit →
     HasNearEnds net → IsInInterval net (of_units unit at) → IsEngineOf net engine → caps ≡ caps_of net unit at → IsGreatest (network_at net (of_units unit at)) flow →

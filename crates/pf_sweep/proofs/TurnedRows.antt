@@ -1,6 +1,6 @@
 -- The row of the mirror, and its rows in reverse order.
 use Rattle.std.proofs.Common.{◌≡◌, ℕ, ◌+◌, ◌-◌, ◌<◌, ◌≤◌, List, length, get_or, map, arith, ap, sym, ◌∙◌, subst}
-use Rattle.std.specs.Prelude.{ℤ, int_lt, ◌+ℤ◌, ◌-ℤ◌, ◌*ℤ◌, ◌≤ℤ◌, neg_ℤ, pos, nat_abs, reverse}
+use Rattle.std.specs.Prelude.{ℤ, ◌+ℤ◌, ◌-ℤ◌, ◌*ℤ◌, ◌≤ℤ◌, neg_ℤ, pos, nat_abs, reverse}
 use Rattle.std.proofs.lemmas.Int.{ints}
 use Rattle.std.proofs.lemmas.List.{length-map, get_or-map, length-reverse}
 use Rattle.pf_model.specs.declared.Sense.TheVariants.{Rising, Falling}
@@ -12,7 +12,7 @@ use Rattle.pf_model.specs.Mirror.{negative, mirror, other_sense}
 use Rattle.pf_model.proofs.Integers.{mul_add, mul_comm}
 use Rattle.pf_model.proofs.Lowest.{lowest_is, lowest_only, lowest_stays}
 use Rattle.pf_model.proofs.Mirror.{neg_mul, equal_turned, network_turned, monotone_turned, mirror_twice}
-use Rattle.pf_sweep.specs.Parameters.{of_units, most_unit, IsNearEnd, HasNearEnds, unit_of, step_units, sweep_parameter, is_too_fine}
+use Rattle.pf_sweep.specs.Parameters.{of_units, IsNearEnd, HasNearEnds, unit_of, step_units, sweep_parameter}
 use Rattle.pf_sweep.specs.Rows.{IsRightRow, AreRows, turned_row}
 use Rattle.pf_sweep.specs.Laws.{RowOfMirror, RowsOfMirror}
 use Rattle.pf_sweep.proofs.Units.{some_product}
@@ -129,11 +129,6 @@ pub near_ends_turned : (net other : Network) → other ≡ mirror net → HasNea
 near_ends_turned net other e near =
     let turned : HasNearEnds (mirror net) = record { low = near_turned net.high near.high; high = near_turned net.low near.low } in
     subst HasNearEnds (sym e) turned
-
-pub fine_turned : (net other : Network) (k : ℕ) → other ≡ mirror net → is_too_fine k other ≡ is_too_fine k net
-fine_turned net other k e =
-    let unit : unit_of (mirror net) k ≡ unit_of net k = ap (λ n. n *ℤ pos k) (mul_comm net.high.q net.low.q) in
-    ap (is_too_fine k) e ∙ ap (λ n. int_lt (pos most_unit) n) unit
 
 pub rising_turned : (net other : Network) → other ≡ mirror net → net.sense ≡ Falling → other.sense ≡ Rising
 rising_turned net other e falling = ap (λ (net : Network). net.sense) e ∙ ap other_sense falling

@@ -337,9 +337,9 @@ fn falling_rows(alloc: Global, net: &Net, k: u32) -> Result<Rows, SweepBad>
     Ok(made)
 }
 
-/// The rows of `k` equal steps through the network's interval, from its low end to its high one: `k + 1` rows of one sweep, which
-/// goes through the mirror of a falling network. It is `TooFine` exactly where the product of the ends' denominators and `k` is above
-/// `2^40`, and then no sweep is made. The only other error is `NoMemory`.
+/// The rows of `k` equal steps through the network's interval, from its low end to its high one: `k + 1` rows, by two sweeps of which
+/// one goes ahead. They go through the mirror of a falling network. It is `TooFine` exactly where the product of the ends'
+/// denominators and `k` is above `2^40`, and then no sweep is made. The only other error is `NoMemory`.
 pub fn rows_of(alloc: Global, net: &Net, k: u32) -> Result<Rows, SweepBad>
     requires some { 1 ≤ k }
     requires most { k ≤ 100000 }

@@ -1,10 +1,10 @@
 -- Lines and lists, spelled piece by piece.
 use Rattle.std.proofs.Common.{◌≡◌, ℕ, ◌+◌, ◌<◌, List, [], ◌∷◌, ◌++◌, length, take, drop, get_or, map, refl, sym, ap, ◌∙◌, append_assoc}
 use Rattle.std.proofs.lemmas.List.{append-nil, take_more, take-append-drop, map-append}
-use Rattle.std.specs.Prelude.{ℤ, pos, Bool}
-use Rattle.std.specs.Fmt.{decimal, signed_decimal}
+use Rattle.std.specs.Prelude.{Bool}
+use Rattle.std.specs.Fmt.{decimal}
 use Rattle.std.specs.List.{join_with_byte}
-use Rattle.pf_text.specs.Spelling.{line, side_text, spaced, rest_of_line, numbers_text, head, head_text}
+use Rattle.pf_text.specs.Spelling.{line, side_text, spaced, rest_of_line, head, head_text}
 
 -- A text of a list that is the texts of its pieces: one item more, and the whole after what was printed.
 pub text_more : {X : Type 0} (text : List X → List ℕ) → ((a b : List X) → text (a ++ b) ≡ text a ++ text b) → (xs : List X) (i : ℕ) (d : X) → i < length xs
@@ -23,12 +23,6 @@ spaced-append (field ∷ a) b = ap (λ (rest : List ℕ). (32 ∷ field) ++ rest
 
 fields-append : {X : Type 0} (field : X → List ℕ) (a b : List X) → spaced (map field (a ++ b)) ≡ spaced (map field a) ++ spaced (map field b)
 fields-append field a b = ap spaced (map-append field a b) ∙ spaced-append (map field a) (map field b)
-
-pub numbers_text-append : (a b : List ℤ) → numbers_text (a ++ b) ≡ numbers_text a ++ numbers_text b
-numbers_text-append a b = fields-append signed_decimal a b
-
-pub number_text : (number : ℤ) → numbers_text (number ∷ []) ≡ 32 ∷ signed_decimal number
-number_text number = append-nil (32 ∷ signed_decimal number)
 
 -- fields, each with a space in front: one more
 pub spaced_more : {X : Type 0} (field : X → List ℕ) (xs : List X) (i : ℕ) (d : X) → i < length xs → spaced (map field (take (i + 1) xs)) ≡ spaced (map field (take i xs)) ++ (32 ∷ field (get_or xs i d))

@@ -1,10 +1,10 @@
 -- What bytes ask of a command, and what it makes of them.
-use Rattle.std.proofs.Common.{◌≡◌, ◌≢◌, ℕ, ◌≤◌, ◌^◌, List, [], ◌∷◌, length, Some, None, Result, Ok, Err, refl, ◌∙◌}
+use Rattle.std.proofs.Common.{◌≡◌, ℕ, ◌≤◌, ◌^◌, List, [], ◌∷◌, length, None, Result, Ok, Err, refl, ◌∙◌}
 use Rattle.std.proofs.lemmas.Bool.{le-ltb}
 use Rattle.pf_text.specs.declared.TextBad.{TextBad}
 use Rattle.pf_text.specs.declared.TextBad.TheVariants.{Syntax}
 use Rattle.pf_text.specs.declared.Refusal.{Refusal}
-use Rattle.pf_text.specs.declared.Refusal.TheVariants.{Text, TooLong}
+use Rattle.pf_text.specs.declared.Refusal.TheVariants.{Text}
 use Rattle.pf_text.specs.Lines.{Line, lines_from}
 use Rattle.pf_text.specs.Kinds.{Accepted}
 use Rattle.pf_lines.specs.Places.{Place, lines_left}
@@ -51,14 +51,6 @@ refused_line row bytes start after problem line later refusal short begins r beh
 pub problem_alone : (row : Row) (bytes : List ℕ) (start after : Place) (problem : ProblemOf row) → Begins start bytes → IsReadTo row start after problem → lines_left after ≡ []
     → IsProblemOf row bytes problem
 problem_alone row bytes start after problem begins r alone = record { rest = after.rest; line = after.number; text = rw begins at r.judged; alone = alone }
-
--- a problem that is refused
-pub refused_problem : (row : Row) (bytes : List ℕ) (problem : ProblemOf row) (refusal : Refusal) → length bytes ≤ 2 ^ 29 → IsProblemOf row bytes problem
-    → (job_of row).refusal problem ≡ Some refusal → refusal ≢ TooLong → IsRefused (answer row) bytes refusal
-refused_problem row bytes problem refusal short p refuses other = record {
-  asks = asks_read (answer row) bytes short ∙ rw (p.text, p.alone, refuses) refl;
-  short = other;
-}
 
 -- a problem that is not refused
 pub accepted_problem : (row : Row) (bytes : List ℕ) (problem : ProblemOf row) → length bytes ≤ 2 ^ 29 → (p : IsProblemOf row bytes problem)

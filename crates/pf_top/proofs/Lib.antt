@@ -3,7 +3,6 @@ pub mod RequestLemmas
 pub mod LevelLemmas
 pub mod PointLemmas
 pub mod SweepLemmas
-pub mod TreesLemmas
 pub mod AnsweringLemmas
 pub mod RunningLemmas
 pub mod AskedRows

@@ -5,13 +5,13 @@ use Rattle.std.specs.Option.{option_map, option_and_then, option_or}
 use Rattle.std.specs.Int.{w64}
 use Rattle.std.proofs.lemmas.Int.{ints}
 use Rattle.std.proofs.lemmas.Bool.Decides.{nat_tests}
-use Rattle.pf_model.specs.Fraction.{IsBoundedFraction, lowest}
+use Rattle.pf_model.specs.Fraction.{lowest}
 use Rattle.pf_text.specs.Numbers.{natural_of, whole_of, billion}
-use Rattle.pf_text.specs.Words.{natural_within, integer_within, fraction_of_numbers}
+use Rattle.pf_text.specs.Words.{natural_within, integer_within, fraction_of_numbers, fraction_of_parts}
 use Rattle.pf_top.specs.Job.{named, answer, reads}
 use Rattle.pf_top.specs.Asked.{beside, names, lone_words, first_words, command_of}
 use Rattle.pf_text.proofs.NumbersLemmas.{whole_of-minus, whole_of-plain, natural_of-others}
-use Rattle.pf_top.specs.Words.{word_bytes, fraction_of_parts}
+use Rattle.pf_top.specs.Words.{word_bytes}
 use Rattle.std.specs.String.{string_bytes}
 use Rattle.std.specs.declared.string.String.{String}
 use Rattle.std.specs.declared.alloc.Global.{Global}
@@ -27,14 +27,6 @@ integer_found low high n (Some m) e = by (int_le low m && int_le m high) e
     by : (t : Bool) → Ok n ≡ cond t (Ok m) (Err OutOfRange) → cond t (Some m) None ≡ Some n
     by true e = let same : n ≡ m = cc in rw same refl
     by false e = absurd cc
-
-integer_missing : (low high : ℤ) (bad : Bad) (value : Option ℤ) → Err bad ≡ within_range low high value → integer_within low high value ≡ None
-integer_missing low high bad None e = refl
-integer_missing low high bad (Some m) e = by (int_le low m && int_le m high) e
-  where
-    by : (t : Bool) → Err bad ≡ cond t (Ok m) (Err OutOfRange) → cond t (Some m) None ≡ None
-    by true e = absurd cc
-    by false e = refl
 
 below_one : (natural : Option ℕ) (n : ℤ) → option_map (λ k. neg_ℤ (pos k)) natural ≡ Some n → n ≤ℤ pos 0
 below_one None n e = absurd cc
@@ -97,20 +89,6 @@ fraction_found front back p q numerator denominator =
         → fraction_of_parts front back ≡ Some (lowest (record { p = p; q = q }))
     found k second same first = let both : fraction_of_parts front back ≡ Some (lowest (record { p = p; q = pos k })) = rw (first, second) refl in
         both ∙ ap (λ (z : ℤ). Some (lowest (record { p = p; q = z }))) (sym same)
-
-pub fraction_bounds : (front back : List ℕ) (p q : ℤ) → Ok p ≡ within_range (neg_ℤ (pos billion)) (pos billion) (whole_of front) → Ok q ≡ within_range (pos 1) (pos billion) (whole_of back)
-    → IsBoundedFraction (record { p = p; q = q })
-fraction_bounds front back p q numerator denominator =
-    let n = in_range (neg_ℤ (pos billion)) (pos billion) (whole_of front) p numerator in
-    let low = n.1 in
-    let high = n.2 in
-    let d = in_range (pos 1) (pos billion) (whole_of back) q denominator in
-    let one = d.1 in
-    let most = d.2 in
-    record { p_low = omega (arith, ints, low); p_high = omega (arith, ints, high); parameter = one; q_high = omega (arith, ints, most) }
-
-pub fraction_no_front : (front back : List ℕ) (bad : Bad) → Err bad ≡ within_range (neg_ℤ (pos billion)) (pos billion) (whole_of front) → fraction_of_parts front back ≡ None
-fraction_no_front front back bad e = rw (integer_missing (neg_ℤ (pos billion)) (pos billion) bad (whole_of front) e) refl
 
 -- the same, of numbers of 64 bits
 pub fraction_stored : (front back : List ℕ) (p q : ℤ) → Ok p ≡ within_range (neg_ℤ (pos billion)) (pos billion) (whole_of front) → Ok q ≡ within_range (pos 1) (pos billion) (whole_of back)

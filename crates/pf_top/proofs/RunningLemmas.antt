@@ -16,7 +16,7 @@ use Rattle.pf_text.specs.Kinds.{Accepted}
 use Rattle.pf_text.specs.Verdict.{verdict_text, IsRightVerdict}
 use Rattle.pf_text.proofs.VerdictLemmas.{same_verdict}
 use Rattle.pf_gen.specs.Right.{IsRightSummary}
-use Rattle.pf_top.specs.Job.{Row, job_of, ProblemOf, TextCommand, answer, check, row_of, Command, reads, draws}
+use Rattle.pf_top.specs.Job.{Row, job_of, ProblemOf, TextCommand, check, row_of, Command, reads, draws}
 use Rattle.pf_top.specs.Asked.{Asked, usage, refused, accepted, drawn, unless, refusal_behind, problem_refusal, asked_of_read, asked_of_bytes, asked, command_of, IsRight}
 use Rattle.pf_top.specs.Answering.{IsRefused, status_of}
 use Rattle.pf_top.specs.declared.job.Stop.{Stop}
@@ -154,15 +154,6 @@ pub end_stopped : {U : Type 0} (O : Sink U) (o : U) (command : TextCommand) (byt
     → IsEnd O o o command bytes (status_of stop)
 end_stopped O o command bytes (Stopped.Refused refusal) why = end_refused O o command bytes refusal (why refusal refl)
 end_stopped O o command bytes Stopped.NoMemory why = end_no_memory O o command bytes
-
-pub end_answered : {U : Type 0} (O : Sink U) (oo on : U) (row : Row) (bytes : List ℕ) (problem : ProblemOf row) (rest text : List ℕ)
-    → asked_of_bytes (answer row) bytes ≡ accepted (answer row) problem rest → (job_of row).IsRight problem text
-    → O.faults oo ≤ O.faults on → TookWhole O oo on text → IsEnd O oo on (answer row) bytes Done
-end_answered O oo on row bytes problem rest text asks right later took = record {
-  says = (text, rw asks right, rw asks (λ no'. absurd no'), took);
-  out_count = later;
-  read = tt;
-}
 
 pub end_checked : {U : Type 0} (O : Sink U) (oo on : U) (row : Row) (bytes : List ℕ) (problem : ProblemOf row) (rest : List ℕ) (holds : Bool)
     → asked_of_bytes (check row) bytes ≡ accepted (check row) problem rest → IsRightVerdict ((job_of row).Certifies problem rest) (verdict_text holds)

@@ -1,8 +1,7 @@
 -- What the words and the bytes ask for: the first of the refusals that applies, or a command over a problem; or the network of
 -- a seed, whatever the bytes.
-use Rattle.std.specs.Prelude.{◌≡◌, ℕ, ◌+◌, ◌-◌, ◌^◌, pos, false, nat_lt, if◌then◌else◌, List, [], ◌∷◌, length, take, drop, ◌==◌, Option, Some, None, Result, Ok, Err, codes}
+use Rattle.std.specs.Prelude.{◌≡◌, ℕ, ◌+◌, ◌-◌, ◌^◌, pos, false, nat_lt, if◌then◌else◌, List, [], ◌∷◌, length, Option, Some, None, Result, Ok, Err, codes}
 use Rattle.std.specs.Option.{option_map, option_and_then, option_or}
-use Rattle.std.specs.List.{position}
 use Rattle.std.specs.Str.{bytes_eq}
 use Rattle.pf_model.specs.Fraction.{Fraction}
 use Rattle.pf_text.specs.declared.TextBad.{TextBad}
@@ -13,7 +12,7 @@ use Rattle.pf_text.specs.Lines.{Line, lines_from}
 use Rattle.pf_text.specs.Numbers.{natural_of, billion}
 use Rattle.pf_text.specs.Kinds.{Accepted}
 use Rattle.pf_text.specs.Verdict.{verdict_text, IsRightVerdict}
-use Rattle.pf_text.specs.Words.{natural_within, fraction_of_numbers, parameter_of}
+use Rattle.pf_text.specs.Words.{natural_within, fraction_of_numbers, cut_at_slash, parameter_of}
 use Rattle.pf_top.specs.Job.{at, sweep, trees, reinforce, layers, named, job_of, ProblemOf, TextCommand, answer, check, row_of, Command, reads, draws}
 use Rattle.pf_top.specs.declared.words.Name.{Name}
 use Rattle.pf_top.specs.declared.words.Name.TheVariants.{Curve, Closure, Densest, Strength, Select, Partition, Share}
@@ -35,9 +34,9 @@ lone_words = (codes "layers", reads (answer layers)) ∷ []
 abbrev pub level_of_parts : List ℕ → List ℕ → Option Fraction
 level_of_parts front back = fraction_of_numbers (option_map pos (natural_within 0 billion (natural_of front))) (natural_within 1 billion (natural_of back))
 
--- the level `P/Q` of a word, which is cut at its first slash
+-- the level `P/Q` of a word
 unfoldable pub level_of : List ℕ → Option Fraction
-level_of bytes = option_and_then (λ slash. level_of_parts (take slash bytes) (drop (slash + 1) bytes)) (position (λ b. b == 47) bytes)
+level_of bytes = cut_at_slash level_of_parts bytes
 
 -- the words that have a second one after them, and what both then ask for, if the second has its form
 abbrev pub first_words : List (List ℕ × (List ℕ → Option Command))

@@ -1,11 +1,8 @@
 -- The bytes of words, and the command of a request.
-use Rattle.std.specs.Prelude.{ℕ, List, map, pos, neg_ℤ, Option}
+use Rattle.std.specs.Prelude.{ℕ, List, map}
 use Rattle.std.specs.String.{string_bytes}
 use Rattle.std.specs.declared.string.String.{String}
 use Rattle.std.specs.declared.alloc.Global.{Global}
-use Rattle.pf_model.specs.Fraction.{Fraction}
-use Rattle.pf_text.specs.Numbers.{natural_of, whole_of, billion}
-use Rattle.pf_text.specs.Words.{natural_within, integer_within, fraction_of_numbers}
 use Rattle.pf_top.specs.Job.{at, sweep, trees, reinforce, layers, named, TextCommand, answer, check, Command, reads, draws}
 use Rattle.pf_top.specs.declared.words.TextRequest.{TextRequest}
 use Rattle.pf_top.specs.declared.words.TextRequest.TheVariants.{At, Sweep, Trees, Reinforce, Layers, Answer, Check}
@@ -15,10 +12,6 @@ use Rattle.pf_top.specs.declared.words.Request.TheVariants.{Text, Generate}
 -- the bytes of each word
 abbrev pub word_bytes : List (String Global) → List (List ℕ)
 word_bytes words = map string_bytes words
-
--- the fraction of two words before and after a slash, in lowest terms, with both numbers in their ranges
-abbrev pub fraction_of_parts : List ℕ → List ℕ → Option Fraction
-fraction_of_parts front back = fraction_of_numbers (integer_within (neg_ℤ (pos billion)) (pos billion) (whole_of front)) (natural_within 1 billion (natural_of back))
 
 -- the command that a request stands for
 abbrev pub text_command_of : TextRequest → TextCommand

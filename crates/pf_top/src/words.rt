@@ -1,13 +1,13 @@
 // Which command words ask for.
-ghost use Rattle.std.specs.Prelude.{◌≡◌, ◌+◌, ◌-◌, ◌*◌, ◌^◌, ◌≤◌, ◌==◌, ◌≤ℤ◌, pos, true, Some, IfSome};
+ghost use Rattle.std.specs.Prelude.{◌≡◌, ◌+◌, ◌-◌, ◌*◌, ◌^◌, ◌≤◌, ◌==◌, ◌≤ℤ◌, ℕ, pos, true, List, Option, Some, IfSome};
 ghost use Rattle.std.specs.List.{position};
 ghost use Rattle.std.specs.Option.{option_map, option_and_then, option_or};
-ghost use Rattle.pf_model.specs.Fraction.{IsBoundedFraction, lowest};
+ghost use Rattle.pf_model.specs.Fraction.{Fraction, IsBoundedFraction, lowest};
 ghost use Rattle.pf_text.specs.Numbers.{is_digit, natural_of, billion};
-ghost use Rattle.pf_text.specs.Words.{natural_within, parameter_of};
+ghost use Rattle.pf_text.specs.Words.{natural_within, cut_at_slash, fraction_of_parts, parameter_of};
 ghost use Rattle.pf_top.specs.Job.{at, sweep, trees, reinforce, named, answer, check, reads, draws};
 ghost use Rattle.pf_top.specs.Asked.{beside, names, lone_words, level_of_parts, level_of, first_words, command_of};
-ghost use Rattle.pf_top.specs.Words.{word_bytes, command_of_request, fraction_of_parts};
+ghost use Rattle.pf_top.specs.Words.{word_bytes, command_of_request};
 
 use crate::commands::at::At;
 use crate::commands::reinforce::Reinforce;
@@ -96,16 +96,22 @@ fn first_slash(bytes: &[u8]) -> Option<usize>
     bytes.iter().position(|b| *b == b'/')
 }
 
+// The bytes before the first slash and those after it, if there is one.
+fn cut(bytes: &[u8]) -> Option<(&[u8], &[u8])>
+    ensures { (read : List ℕ → List ℕ → Option Fraction) → cut_at_slash read bytes.now ≡ option_and_then (λ parts. read parts.0.now parts.1.now) result }
+{
+    let slash = first_slash(bytes)?;
+    let (front, _) = bytes.split_at(slash);
+    let (_, back) = bytes.split_at(slash + 1);
+    Some((front, back))
+}
+
 // The fraction `P/Q`, if both numbers are in their ranges.
 fn read_parameter(bytes: &[u8]) -> Option<Rat>
     ensures { parameter_of bytes.now ≡ result }
 {
-    match first_slash(bytes) {
-        Some(slash) => {
-            let (front, _) = bytes.split_at(slash);
-            let (_, back) = bytes.split_at(slash + 1);
-            fraction(front, back)
-        }
+    match cut(bytes) {
+        Some((front, back)) => fraction(front, back),
         None => None,
     }
 }
@@ -181,12 +187,8 @@ fn level(front: &[u8], back: &[u8]) -> Option<Reinforce>
 fn read_level(bytes: &[u8]) -> Option<Reinforce>
     ensures { level_of bytes.now ≡ result }
 {
-    match first_slash(bytes) {
-        Some(slash) => {
-            let (front, _) = bytes.split_at(slash);
-            let (_, back) = bytes.split_at(slash + 1);
-            level(front, back)
-        }
+    match cut(bytes) {
+        Some((front, back)) => level(front, back),
         None => None,
     }
 }

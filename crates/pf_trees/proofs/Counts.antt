@@ -122,10 +122,6 @@ below_split : (p k : ℕ) (b : Bool) → cond (b && ltb p (suc k)) 1 0 ≡ cond 
 below_split p k true = grind (arith, nat_tests)
 below_split p k false = grind (arith, nat_tests)
 
-and_no : (b : Bool) → (b && false) ≡ false
-and_no true = refl
-and_no false = refl
-
 at_slot : (m t : ℕ) (slot place : List ℕ) (test : ℕ → Bool) → IsPlaced m t slot place → (k : ℕ) → k < t →
     count m (λ x. test x && (at place x == k)) ≡ cond (ltb (at slot k) m && test (at slot k)) 1 0
 at_slot m t slot place test p k h =

@@ -1,5 +1,5 @@
 -- The chain of exchanges, one after another.
-use Rattle.std.proofs.Common.{◌≡◌, ℕ, ◌+◌, ◌*◌, ◌<◌, ◌≤◌, List, length, set, refl, Bool, true, arith, ◌∙◌}
+use Rattle.std.proofs.Common.{◌≡◌, ℕ, ◌+◌, ◌*◌, ◌<◌, ◌≤◌, List, length, set, Bool, true, arith, ◌∙◌}
 use Rattle.pf_model.specs.Digraph.{IsDigraph}
 use Rattle.pf_trees.specs.Trees.{with_ends}
 use Rattle.pf_trees.specs.Sides.{separates}
@@ -16,18 +16,6 @@ pub record IsInserting (n w k : ℕ) (ends : List (ℕ × ℕ)) (cut : ℕ → �
   pub crossing : t < k * w → separates (cut t) (edge_at ends (at chain at_)) ≡ true
   pub same : t < k * w → unplaced (k * w) place ≡ count
   pub fewer : k * w ≤ t → unplaced (k * w) place < count
-
-pub inserting_starts : (n w k : ℕ) (ends : List (ℕ × ℕ)) (cut : ℕ → ℕ → Bool) (slot place chain : List ℕ) (len t : ℕ) → IsState n w k ends cut slot place → t < k * w → at slot t ≡ length ends →
-    IsChain ends cut place (k * w) chain 0 len → separates (cut t) (edge_at ends (at chain 0)) ≡ true →
-    IsInserting n w k ends cut slot place chain 0 len t (unplaced (k * w) place)
-inserting_starts n w k ends cut slot place chain len t st ht free ch cr = record {
-  state = st;
-  free = λ h. free;
-  chain_is = λ h. ch;
-  crossing = λ h. cr;
-  same = λ h. refl;
-  fewer = λ h. absurd (omega arith);
-}
 
 pub inserting_more : (n w k : ℕ) (ends : List (ℕ × ℕ)) (cut cut' : ℕ → ℕ → Bool) (slot slot' place place' chain : List ℕ) (from len t i t' count : ℕ) → IsDigraph (with_ends n ends) →
     IsInserting n w k ends cut slot place chain from len t count → t < k * w → IsLast ends cut chain t from len i →

@@ -119,13 +119,6 @@ started_none total m place mark level e = record {
   levels = λ x h. absurd (both_ways (has mark x) (ap (λ l. has l x) e ∙ has_none m x) h);
 }
 
-pub ways_started : (ends : List (ℕ × ℕ)) (cut : ℕ → ℕ → Bool) (place : List ℕ) (total : ℕ) (mark : List Bool) (from level : List ℕ) (put : ℕ) → IsStarted total place mark level put →
-    HasWays ends cut place total mark from level put
-ways_started ends cut place total mark from level put s = record {
-  back = λ x h l. absurd (let o = s.only x h in omega (arith, o));
-  levels = s.levels;
-}
-
 ways_cases : (ends : List (ℕ × ℕ)) (cut : ℕ → ℕ → Bool) (place : List ℕ) (total : ℕ) (mark : List Bool) (from level : List ℕ) (put y x depth : ℕ) →
     HasWays ends cut place total mark from level put → y < length from → y < length level → has mark x ≡ true → depth ≡ at level x + 1 →
     separates (cut (at place y)) (edge_at ends x) ≡ true → (b : Bool) → has mark y ≡ b →
@@ -192,22 +185,6 @@ pub record IsScanning (ends : List (ℕ × ℕ)) (cut : ℕ → ℕ → Bool) (s
 -- the number of slots, told by the table
 pub placed_whole : (m t : ℕ) (slot place : List ℕ) → IsPlaced m t slot place → IsPlaced m (length slot) slot place
 placed_whole m t slot place p = subst (λ n. IsPlaced m n slot place) (sym p.slots_full) p
-
-pub scan_begins : (ends : List (ℕ × ℕ)) (cut : ℕ → ℕ → Bool) (slot place : List ℕ) (total : ℕ) (mark : List Bool) (queue from level : List ℕ) (taken put x depth : ℕ) →
-    IsSearching ends cut slot place total mark queue from level taken put → taken < put → x ≡ at queue taken → depth ≡ at level x + 1 →
-    IsScanning ends cut slot place total mark queue from level (taken + 1) put x 0 depth
-scan_begins ends cut slot place total mark queue from level taken put x depth s h e d = record {
-  places = s.places;
-  marking = s.marking;
-  ways = s.ways;
-  roots = s.roots;
-  order = omega arith;
-  done = λ i l. s.done i (omega arith);
-  now = λ i l. let f : i ≡ taken = omega arith in ap (at queue) f ∙ sym e;
-  marked = rw e (s.marking.queued taken h);
-  depth_is = d;
-  seen = record { held = λ i l c. absurd (omega arith); marked = λ i l c. absurd (omega arith) };
-}
 
 pub scan_skip : (ends : List (ℕ × ℕ)) (cut : ℕ → ℕ → Bool) (slot place : List ℕ) (total : ℕ) (mark : List Bool) (queue from level : List ℕ) (taken put x t depth : ℕ) →
     IsScanning ends cut slot place total mark queue from level taken put x t depth → separates (cut t) (edge_at ends x) ≡ false →
@@ -297,21 +274,6 @@ scan_visit ends cut slot place total mark mark' queue queue' from from' level le
     let there : at place y ≡ t = ap (at place) e ∙ p.back t ht (omega arith) in
     rw (a1, a2, a3, a4, a5) (scan_cases ends cut slot place total mark queue from level taken put x t depth y s c e low there (has mark y) refl)
 
-pub scan_ends : (ends : List (ℕ × ℕ)) (cut : ℕ → ℕ → Bool) (slot place : List ℕ) (total : ℕ) (mark : List Bool) (queue from level : List ℕ) (taken put x t depth : ℕ) →
-    IsScanning ends cut slot place total mark queue from level taken put x t depth → total ≤ t →
-    IsSearching ends cut slot place total mark queue from level taken put
-scan_ends ends cut slot place total mark queue from level taken put x t depth s h = record {
-  places = s.places;
-  marking = s.marking;
-  ways = s.ways;
-  roots = s.roots;
-  order = s.order;
-  done = λ i l. elim (cases_eq (i + 1) taken) [
-    | inl e ↦ rw (s.now i e) (record { held = λ j k c. s.seen.held j (omega arith) c; marked = λ j k c. s.seen.marked j (omega arith) c })
-    | inr ne ↦ s.done i (omega arith)
-  ];
-}
-
 pub search_ends : (ends : List (ℕ × ℕ)) (cut : ℕ → ℕ → Bool) (slot place : List ℕ) (total : ℕ) (mark : List Bool) (queue from level : List ℕ) (taken put : ℕ) →
     IsSearching ends cut slot place total mark queue from level taken put → put ≤ taken → IsClosed total ends cut slot place mark
 search_ends ends cut slot place total mark queue from level taken put s h = record {
@@ -326,18 +288,6 @@ search_ends ends cut slot place total mark queue from level taken put s h = reco
       let u = w.upto in
       let d = s.done w.index (omega arith) in
       d.marked t ht (ap (λ e. separates (cut t) (edge_at ends e)) w.holds ∙ c);
-}
-
-pub search_starts : (ends : List (ℕ × ℕ)) (cut : ℕ → ℕ → Bool) (slot place : List ℕ) (total : ℕ) (mark : List Bool) (queue from level : List ℕ) (put : ℕ) →
-    HasPlaces (length ends) mark queue from level → IsMarking (length ends) mark queue put → IsStarted total place mark level put →
-    ((x : ℕ) → x < length ends → has mark x ≡ false → at place x < total) → IsSearching ends cut slot place total mark queue from level 0 put
-search_starts ends cut slot place total mark queue from level put p k s roots = record {
-  places = p;
-  marking = k;
-  ways = ways_started ends cut place total mark from level put s;
-  roots = roots;
-  order = omega arith;
-  done = λ i h. absurd (omega arith);
 }
 
 pub ways_put : (ends : List (ℕ × ℕ)) (cut : ℕ → ℕ → Bool) (place : List ℕ) (total : ℕ) (mark : List Bool) (from level : List ℕ) (put m : ℕ) → HasWays ends cut place total mark from level put → put ≤ m →

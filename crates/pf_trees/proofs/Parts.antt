@@ -17,14 +17,6 @@ pub record IsCoarser (fine coarse : List ℕ) : Type 0 where
 pub coarser_has_fewer : (fine coarse : List ℕ) → IsCoarser fine coarse → parts coarse ≤ parts fine
 coarser_has_fewer fine coarse h = finer_parts fine coarse (sym h.full) (record { joins = h.same })
 
-pub parts_most : (xs : List ℕ) → parts xs ≤ length xs
-parts_most [] = omega arith
-parts_most (x ∷ xs) = parts_most_step (occurs x xs) (parts xs) (length xs) (parts_most xs)
-  where
-    parts_most_step : (a : Bool) (m n : ℕ) → m ≤ n → cond a 0 1 + m ≤ suc n
-    parts_most_step true m n h = omega arith
-    parts_most_step false m n h = omega arith
-
 -- the label p becomes q
 abbrev pub renamed : ℕ → ℕ → ℕ → ℕ
 renamed p q l = cond (l == p) q l
@@ -235,11 +227,3 @@ above_all x (suc n) h = rw (ne_eqb x n (λ e. omega arith)) (above_all x n (omeg
 pub parts_falling : (n : ℕ) → parts (falling n) ≡ n
 parts_falling zero = refl
 parts_falling (suc n) = let e = above_all n n (omega arith) in rw (e, parts_falling n) (omega arith)
-
-falling_at : (n v : ℕ) → v < n → label (falling n) v + v + 1 ≡ n
-falling_at zero v h = absurd (omega arith)
-falling_at (suc n) zero h = omega arith
-falling_at (suc n) (suc v) h = let e = falling_at n v (omega arith) in omega (arith, e)
-
-pub falling_apart : (n u v : ℕ) → u < n → v < n → label (falling n) u ≡ label (falling n) v → u ≡ v
-falling_apart n u v h k e = omega (arith, falling_at n u h, falling_at n v k)

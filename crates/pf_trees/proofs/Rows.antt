@@ -1,5 +1,5 @@
 -- The table of cuts as a row is added to another, as an edge takes a slot, and at first.
-use Rattle.std.proofs.Common.{◌≡◌, ◌≢◌, ℕ, ◌+◌, ◌*◌, ◌%◌, ◌<◌, ◌≤◌, List, length, get_or, set, refl, Bool, true, false, not, ◌&&◌, ltb, arith, ap, sym, ◌∙◌, inl, inr}
+use Rattle.std.proofs.Common.{◌≡◌, ◌≢◌, ℕ, ◌+◌, ◌*◌, ◌%◌, ◌<◌, ◌≤◌, List, length, set, refl, Bool, true, false, not, ◌&&◌, ltb, arith, ap, sym, ◌∙◌, inl, inr}
 use Rattle.std.specs.Prelude.{◌==◌}
 use Rattle.std.proofs.Math.Bool.{beq}
 use Rattle.std.proofs.lemmas.Bool.{cases_eq, eq-eqb, ne_eqb, cases_lt}
@@ -27,17 +27,6 @@ write_other cuts n s v r u b hv hu apart =
 -- the first v places of row s have those of row t added
 pub record IsAdding (old : List Bool) (n s t v : ℕ) (cuts : List Bool) : Type 0 where
   pub is : (r u : ℕ) → u < n → cut_at cuts n r u ≡ differ (cut_at old n r u) (cut_at old n t u && ((r == s) && ltb u v))
-
-differ_nothing : (a b c : Bool) (u : ℕ) → a ≡ differ a (b && (c && ltb u 0))
-differ_nothing true true true u = grind (arith, nat_tests)
-differ_nothing true true false u = grind (arith, nat_tests)
-differ_nothing true false c u = grind (arith, nat_tests)
-differ_nothing false true true u = grind (arith, nat_tests)
-differ_nothing false true false u = grind (arith, nat_tests)
-differ_nothing false false c u = grind (arith, nat_tests)
-
-pub adding_starts : (old : List Bool) (n s t : ℕ) → IsAdding old n s t 0 old
-adding_starts old n s t = record { is = λ r u h. differ_nothing (cut_at old n r u) (cut_at old n t u) (r == s) u }
 
 adding_tests : (a b : Bool) (r s u v : ℕ) → ((r ≡ s) × (u ≡ v) → ⊥) → differ a (b && ((r == s) && ltb u v)) ≡ differ a (b && ((r == s) && ltb u (v + 1)))
 adding_tests a b r s u v h = ap (λ c. differ a (b && c)) (adding_same r s u v h)
@@ -78,14 +67,6 @@ adding_more old n s t v cuts b room hv a e apart = record {
   ];
 }
 
-pub adding_ends : (old : List Bool) (n s t v : ℕ) (cuts : List Bool) → IsAdding old n s t v cuts → n ≤ v → (r u : ℕ) → u < n →
-    cut_at cuts n r u ≡ differ (cut_at old n r u) (cut_at old n t u && (r == s))
-adding_ends old n s t v cuts a h r u hu = a.is r u hu ∙ ap (λ c. differ (cut_at old n r u) (cut_at old n t u && c)) (adding_all (r == s) u v (omega arith))
-  where
-    adding_all : (c : Bool) (u v : ℕ) → u < v → (c && ltb u v) ≡ c
-    adding_all true u v h = grind (arith, nat_tests)
-    adding_all false u v h = refl
-
 -- the slots from lo to below s have been seen as the edge takes slot t
 pub record IsExchanging (old : List Bool) (n lo t : ℕ) (edge : ℕ × ℕ) (s : ℕ) (cuts : List Bool) : Type 0 where
   pub is : (r u : ℕ) → u < n → cut_at cuts n r u ≡ exchanged old n lo s t edge r u
@@ -96,9 +77,6 @@ no_add true true c false e = refl
 no_add true false c false e = refl
 no_add false true c false e = refl
 no_add false false c false e = refl
-
-between_none : (r lo : ℕ) → (not (ltb r lo) && ltb r lo) ≡ false
-between_none r lo = grind (arith, nat_tests)
 
 between_less : (r lo s : ℕ) → s ≤ r → (not (ltb r lo) && ltb r s) ≡ false
 between_less r lo s h = elim (cases_lt r lo) [
@@ -114,11 +92,6 @@ between_same r lo s ne = elim (cases_lt r lo) [
 
 between_here : (lo s : ℕ) → lo ≤ s → (not (ltb s lo) && ltb s (s + 1)) ≡ true
 between_here lo s h = grind (arith, nat_tests)
-
-pub exchanging_starts : (old : List Bool) (n lo t : ℕ) (edge : ℕ × ℕ) → IsExchanging old n lo t edge lo old
-exchanging_starts old n lo t edge = record {
-  is = λ r u h. no_add (cut_at old n r u) (cut_at old n t u) (not (r == t) && separates (cut_at old n r) edge) (not (ltb r lo) && ltb r lo) (between_none r lo);
-}
 
 no_row : (a b c t : Bool) → t ≡ false → differ a (b && (t && c)) ≡ a
 no_row a b c t e = sym (no_add a b c t e)
@@ -168,54 +141,9 @@ exchanging_more old n lo t edge s cuts cuts' low first second x d = record {
   ];
 }
 
-pub exchanging_ends : (old : List Bool) (n lo t : ℕ) (edge : ℕ × ℕ) (s hi : ℕ) (cuts : List Bool) → s ≡ hi → IsExchanging old n lo t edge s cuts →
-    (r u : ℕ) → u < n → cut_at cuts n r u ≡ exchanged old n lo hi t edge r u
-exchanging_ends old n lo t edge s hi cuts e x r u hu = x.is r u hu ∙ ap (λ h. exchanged old n lo h t edge r u) e
-
--- one slot: it is the slot taken, its cut is not crossed, or the row is added
-pub reduced_itself : (old : List Bool) (n s t : ℕ) (edge : ℕ × ℕ) → s ≡ t → IsReduced old n s t edge old
-reduced_itself old n s t edge e = record {
-  is = λ r u h. kept (cut_at old n r u) (cut_at old n t u) (r == s) (s == t) (separates (cut_at old n s) edge) (eq-eqb s t e);
-}
-  where
-    kept : (a b c d t : Bool) → d ≡ true → a ≡ differ a (b && (c && (not d && t)))
-    kept a b c true t e = sym (not_it a b c t)
-    kept a b c false t e = absurd cc
-
-pub reduced_not : (old : List Bool) (n s t : ℕ) (edge : ℕ × ℕ) → separates (cut_at old n s) edge ≡ false → IsReduced old n s t edge old
-reduced_not old n s t edge e = record {
-  is = λ r u h. kept (cut_at old n r u) (cut_at old n t u) (r == s) (not (s == t)) (separates (cut_at old n s) edge) e;
-}
-  where
-    kept : (a b c d t : Bool) → t ≡ false → a ≡ differ a (b && (c && (d && t)))
-    kept true true true true t e = rw e refl
-    kept true true true false t e = refl
-    kept true true false d t e = refl
-    kept true false c d t e = refl
-    kept false true true true t e = rw e refl
-    kept false true true false t e = refl
-    kept false true false d t e = refl
-    kept false false c d t e = refl
-
-pub reduced_added : (old : List Bool) (n s t : ℕ) (edge : ℕ × ℕ) (cuts : List Bool) → s ≢ t → separates (cut_at old n s) edge ≡ true →
-    ((r u : ℕ) → u < n → cut_at cuts n r u ≡ differ (cut_at old n r u) (cut_at old n t u && (r == s))) → IsReduced old n s t edge cuts
-reduced_added old n s t edge cuts ne c h = record {
-  is = λ r u hu. h r u hu ∙ ap (λ b. differ (cut_at old n r u) (cut_at old n t u && b)) (added (r == s) (s == t) (separates (cut_at old n s) edge) (ne_eqb s t ne) c);
-}
-  where
-    added : (a b c : Bool) → b ≡ false → c ≡ true → a ≡ (a && (not b && c))
-    added true b c e f = rw (e, f) refl
-    added false b c e f = refl
-
 -- the first t rows have been written at first
 pub record IsBeginning (n width t : ℕ) (cuts : List Bool) : Type 0 where
   pub is : (r u : ℕ) → u < n → cut_at cuts n r u ≡ (ltb r t && first_cut width r u)
-
-pub beginning_starts : (n width : ℕ) (cuts : List Bool) → ((i : ℕ) → get_or cuts i false ≡ false) → IsBeginning n width 0 cuts
-beginning_starts n width cuts h = record { is = λ r u hu. h (r * n + u) ∙ none r (first_cut width r u) }
-  where
-    none : (r : ℕ) (b : Bool) → false ≡ (ltb r 0 && b)
-    none r b = grind (arith, nat_tests)
 
 pub beginning_more : (n width t : ℕ) (cuts : List Bool) → t % width + 1 < n → t * n + n ≤ length cuts → IsBeginning n width t cuts →
     IsBeginning n width (t + 1) (set cuts (t * n + (t % width + 1)) true)
@@ -240,13 +168,6 @@ beginning_more n width t cuts low room b = record {
 
     same_test : (r t : ℕ) → r ≢ t → ltb r t ≡ ltb r (t + 1)
     same_test r t ne = grind (arith, nat_tests)
-
-pub beginning_ends : (n width t : ℕ) (cuts : List Bool) → IsBeginning n width t cuts → (r u : ℕ) → r < t → u < n → cut_at cuts n r u ≡ first_cut width r u
-beginning_ends n width t cuts b r u h hu = b.is r u hu ∙ passed r t (first_cut width r u) h
-  where
-    passed : (r t : ℕ) (b : Bool) → r < t → (ltb r t && b) ≡ b
-    passed r t true h = grind (arith, nat_tests)
-    passed r t false h = grind (arith, nat_tests)
 
 pub row_room : (r t n m : ℕ) → r < t → t * n ≤ m → r * n + n ≤ m
 row_room r t n m h k = let e = mul-le (r + 1) n t n (omega arith) (omega arith) in let f : (r + 1) * n ≡ r * n + n = grind arith in omega (arith, e, f)

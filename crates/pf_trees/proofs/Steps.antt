@@ -1,5 +1,5 @@
 -- An edge takes a free slot: what stays true of slots, trees and the rest of the chain.
-use Rattle.std.proofs.Common.{◌≡◌, ◌≢◌, ℕ, zero, suc, ◌+◌, ◌-◌, ◌*◌, ◌/◌, ◌%◌, ◌<◌, ◌≤◌, List, [], ◌∷◌, length, set, refl, Bool, true, false, cond, not, ◌&&◌, ltb, arith, ap, sym, ◌∙◌, inl, inr}
+use Rattle.std.proofs.Common.{◌≡◌, ◌≢◌, ℕ, zero, suc, ◌+◌, ◌-◌, ◌*◌, ◌/◌, ◌<◌, ◌≤◌, List, [], ◌∷◌, length, set, refl, Bool, true, false, cond, not, ◌&&◌, ltb, arith, ap, sym, ◌∙◌, inl, inr}
 use Rattle.std.specs.Prelude.{◌==◌, ◌⊎◌}
 use Rattle.std.proofs.lemmas.Bool.{cases_eq, cases_lt, eq-eqb, ne_eqb, both_ways, lt-ltb, le-ltb, cond-true, cond-false}
 use Rattle.std.proofs.lemmas.Bool.Decides.{nat_tests}
@@ -134,10 +134,6 @@ new_pair_here pair t edge = cond-true (t == t) edge (pair t) (eq-eqb t t refl)
 
 new_pair_other : (pair : ℕ → ℕ × ℕ) (t : ℕ) (edge : ℕ × ℕ) (s : ℕ) → s ≢ t → new_pair pair t edge s ≡ pair s
 new_pair_other pair t edge s ne = cond-false (s == t) edge (pair s) (ne_eqb s t ne)
-
--- the block of a slot
-pub block_start : (w t : ℕ) → 0 < w → t - t % w ≡ t / w * w
-block_start w t h = let e = div-add-mod' t w in omega arith
 
 pub block_below : (w k t : ℕ) → t < k * w → t / w < k
 block_below w k t h = elim (cases_lt (t / w) k) [

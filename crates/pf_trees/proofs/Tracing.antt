@@ -1,14 +1,14 @@
--- The chain as it is put_same.
+-- The chain as it is put together.
 use Rattle.std.proofs.Common.{◌≡◌, ℕ, ◌+◌, ◌<◌, ◌≤◌, List, length, set, Bool, true, arith, ap, ◌∙◌, inl, inr}
 use Rattle.std.proofs.lemmas.Bool.{cases_eq}
 use Rattle.std.proofs.lemmas.List.{length-set}
 use Rattle.pf_model.specs.Cut.{has}
 use Rattle.pf_trees.specs.Sides.{separates}
 use Rattle.pf_trees.specs.Slots.{at, edge_at}
-use Rattle.pf_trees.specs.Search.{HasWays, IsChain}
+use Rattle.pf_trees.specs.Search.{HasWays}
 use Rattle.pf_trees.proofs.Marking.{marked_low, put_other, put_same}
 
--- the first len places of the chain are put_same, and y is the last of them
+-- the first len places of the chain are put together, and y is the last of them
 pub record IsTracing (ends : List (ℕ × ℕ)) (cut : ℕ → ℕ → Bool) (place : List ℕ) (total : ℕ) (mark : List Bool) (level : List ℕ) (x : ℕ) (chain : List ℕ) (len y : ℕ) : Type 0 where
   pub some : 0 < len
   pub room : len + at level y ≤ at level x + 1
@@ -20,27 +20,6 @@ pub record IsTracing (ends : List (ℕ × ℕ)) (cut : ℕ → ℕ → Bool) (pl
   pub edges : (i : ℕ) → i < len → at chain i < length ends
   pub held : (i : ℕ) → i + 1 < len → at place (at chain i) < total
   pub crossing : (i : ℕ) → i + 1 < len → separates (cut (at place (at chain i))) (edge_at ends (at chain (i + 1))) ≡ true
-
-pub tracing_starts : (ends : List (ℕ × ℕ)) (cut : ℕ → ℕ → Bool) (place : List ℕ) (total : ℕ) (mark : List Bool) (from level : List ℕ) (x : ℕ) (chain : List ℕ) →
-    HasWays ends cut place total mark from level (length ends) → has mark x ≡ true → length mark ≡ length ends → length chain ≡ length ends →
-    IsTracing ends cut place total mark level x (set chain 0 x) 1 x
-tracing_starts ends cut place total mark from level x chain w m e f =
-    let few = w.levels x m in
-    let there : 0 < length chain = omega arith in
-    let low = marked_low ends mark x e m in
-    let first = put_same chain 0 x there in
-    record {
-      some = omega arith;
-      room = omega arith;
-      full = length-set chain 0 x ∙ f;
-      few = few;
-      marked = m;
-      first = first;
-      here = λ i h. let z : i ≡ 0 = omega arith in rw z first;
-      edges = λ i h. let z : i ≡ 0 = omega arith in rw (z, first) low;
-      held = λ i h. absurd (omega arith);
-      crossing = λ i h. absurd (omega arith);
-    }
 
 pub tracing_room : (ends : List (ℕ × ℕ)) (cut : ℕ → ℕ → Bool) (place : List ℕ) (total : ℕ) (mark : List Bool) (from level : List ℕ) (x : ℕ) (chain : List ℕ) (len y : ℕ) →
     HasWays ends cut place total mark from level (length ends) → IsTracing ends cut place total mark level x chain len y → at place y < total → len < length ends
@@ -86,19 +65,4 @@ tracing_more ends cut place total mark from level x chain len y w t h e =
             rw (old i (omega arith), next, t.here i s) b.crossing
         | inr ne ↦ rw (old i (omega arith), old (i + 1) (omega arith)) (t.crossing i (omega arith))
       ];
-    }
-
-pub tracing_ends : (ends : List (ℕ × ℕ)) (cut : ℕ → ℕ → Bool) (place : List ℕ) (total : ℕ) (mark : List Bool) (from level : List ℕ) (x : ℕ) (chain : List ℕ) (len y : ℕ) →
-    IsTracing ends cut place total mark level x chain len y → total ≤ at place y → IsChain ends cut place total chain 0 len
-tracing_ends ends cut place total mark from level x chain len y t h =
-    let room = t.room in
-    let few = t.few in
-    let full = t.full in
-    record {
-      some = t.some;
-      room = omega arith;
-      edges = λ i a l. t.edges i l;
-      held = λ i a l. t.held i l;
-      crossing = λ i a l. t.crossing i l;
-      last = λ i l. rw (t.here i l) h;
     }

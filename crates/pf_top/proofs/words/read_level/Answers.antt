@@ -1,11 +1,15 @@
-use Rattle.std.proofs.Common.{sym, ◌∙◌}
-use Rattle.pf_top.proofs.LevelLemmas.{level_cut, level_uncut}
+use Rattle.std.proofs.Common.{◌≡◌, ◌∙◌}
+use Rattle.pf_text.specs.Words.{cut_at_slash}
+use Rattle.pf_top.specs.Asked.{level_of_parts, level_of}
 use Rattle.pf_top.proofs.words.read_level.Goals as goal
 
 pub returns-in-None : goal.returns-in-None
-returns-in-None c = level_uncut c.args.bytes.now (sym c.first_slash.ensures ∙ c.in-None.is)
+unfolding level_of
+returns-in-None c = let told = c.cut.ensures level_of_parts in rw c.in-None.is at told
 
 pub returns-in-Some : goal.returns-in-Some
+unfolding level_of
 returns-in-Some c =
-    level_cut c.args.bytes.now c.in-Some.slash (sym c.first_slash.ensures ∙ c.in-Some.is)
-    ∙ rw (← c.split_at.ensures.front, ← c.split_at-in-Some.ensures.back) c.level.ensures
+    let told = c.cut.ensures level_of_parts in
+    let here : cut_at_slash level_of_parts c.args.bytes.now ≡ level_of_parts c.in-Some.front.now c.in-Some.back.now = rw c.in-Some.is at told in
+    here ∙ c.level.ensures

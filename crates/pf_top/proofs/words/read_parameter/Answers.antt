@@ -1,11 +1,14 @@
-use Rattle.std.proofs.Common.{sym, ◌∙◌}
-use Rattle.pf_text.proofs.WordsLemmas.{parameter_of_parts, parameter_of_no_slash}
+use Rattle.std.proofs.Common.{◌≡◌, ◌∙◌}
+use Rattle.pf_text.specs.Words.{cut_at_slash, fraction_of_parts, parameter_of}
 use Rattle.pf_top.proofs.words.read_parameter.Goals as goal
 
 pub returns-in-None : goal.returns-in-None
-returns-in-None c = parameter_of_no_slash c.args.bytes.now (sym c.first_slash.ensures ∙ c.in-None.is)
+unfolding parameter_of
+returns-in-None c = let told = c.cut.ensures fraction_of_parts in rw c.in-None.is at told
 
 pub returns-in-Some : goal.returns-in-Some
+unfolding parameter_of
 returns-in-Some c =
-    parameter_of_parts c.args.bytes.now c.in-Some.slash (sym c.first_slash.ensures ∙ c.in-Some.is)
-    ∙ rw (← c.split_at.ensures.front, ← c.split_at-in-Some.ensures.back) c.fraction.ensures
+    let told = c.cut.ensures fraction_of_parts in
+    let here : cut_at_slash fraction_of_parts c.args.bytes.now ≡ fraction_of_parts c.in-Some.front.now c.in-Some.back.now = rw c.in-Some.is at told in
+    here ∙ c.fraction.ensures
