@@ -10,10 +10,8 @@ use Rattle.pf_model.proofs.Sums.{sum_where_more, sum_all}
 use Rattle.pf_model.specs.Fraction.{Fraction}
 use Rattle.pf_frame.specs.Lending.{row_at}
 use Rattle.pf_graph.specs.WeightedGraph.{WeightedGraph, digraph_of, total}
-use Rattle.pf_frame.specs.Numbers.{AreWithin}
 use Rattle.pf_frame.proofs.Balances.{HasBalances, balances_start, raised, raised_length}
 use Rattle.pf_forest.specs.Forest.{IsSplit, AreSplits, AddsSplits, given}
-use Rattle.pf_forest.specs.Testing.{AreFair}
 
 cond_minus : (here : Bool) (x y : ℤ) → cond here (x -ℤ y) (pos 0) ≡ cond here x (pos 0) -ℤ cond here y (pos 0)
 cond_minus true x y = refl
@@ -92,32 +90,6 @@ gives_all nodes ends vector shares sums i b full full' done v low =
     let less = sum_all (λ arc. eqb arc.1 v) ends shares i full' done in
     omega (arith, ints, s, out, into, less)
 
--- fair sums of shares within their numbers are a split, and a split has such
-pub split_of_fair : (g : Digraph) (limit : ℤ) (vector shares sums : List ℤ) (root : ℕ) → length vector ≡ length g.ends → length shares ≡ length g.ends → root < g.nodes →
-    AreWithin vector shares (length vector) → ((v : ℕ) → v < g.nodes → at_arc sums v ≡ given g.ends vector shares v) → AreFair sums limit root g.nodes →
-    IsSplit g limit vector shares root
-split_of_fair g limit vector shares sums root full full' low w are fair = record {
-  full = full';
-  low = λ i h. w.low i (omega (arith, full, h));
-  high = λ i h. w.high i (omega (arith, full, h));
-  root_none = sym (are root low) ∙ fair.none;
-  most = λ v h. let e = are v h in let m = fair.most v h in omega (arith, ints, e, m);
-}
-
-pub within_of_split : (g : Digraph) (limit : ℤ) (vector shares : List ℤ) (root : ℕ) → length vector ≡ length g.ends → IsSplit g limit vector shares root →
-    AreWithin vector shares (length vector)
-within_of_split g limit vector shares root full s = record {
-  low = λ i h. s.low i (omega (arith, full, h));
-  high = λ i h. s.high i (omega (arith, full, h));
-}
-
-pub fair_of_split : (g : Digraph) (limit : ℤ) (vector shares sums : List ℤ) (root : ℕ) → root < g.nodes →
-    ((v : ℕ) → v < g.nodes → at_arc sums v ≡ given g.ends vector shares v) → IsSplit g limit vector shares root → AreFair sums limit root g.nodes
-fair_of_split g limit vector shares sums root low are s = record {
-  none = are root low ∙ s.root_none;
-  most = λ v h. let e = are v h in let m = s.most v h in omega (arith, ints, e, m);
-}
-
 -- the sum of the first numbers, and a bound that so many give
 pub record HasTotal (ends : List (ℕ × ℕ)) (vector : List ℤ) (i : ℕ) (sum : ℤ) : Type 0 where
   pub is : sum ≡ total (take i ends) (take i vector)
@@ -151,9 +123,6 @@ splits_more g frame x limit vector splits first r shares e f a s all =
     let Q : ℤ → Type 0 = λ l. IsSplit (digraph_of g) l vector shares r in
     let R : List ℤ → Type 0 = λ l. IsSplit (digraph_of g) x.p vector l r in
     record { each = below_more (λ k. IsSplit (digraph_of g) x.p vector (row_at splits (first + k)) k) r all.each (subst R a (subst Q f (subst P e s))) }
-
-pub adds_none : (g : WeightedGraph) (x : Fraction) (vector : List ℤ) (table : List (List ℤ)) → AddsSplits g x vector table table 0
-adds_none g x vector table = record { rows = omega arith; kept = λ k low. refl; splits = record { each = λ r none. absurd (omega (arith, none)) } }
 
 pub adds_more : (g : WeightedGraph) (x : Fraction) (vector : List ℤ) (old table table' : List (List ℤ)) (r : ℕ) (shares : List ℤ) → AddsSplits g x vector old table r →
     table' ≡ table ++ shares ∷ [] → IsSplit (digraph_of g) x.p vector shares r → AddsSplits g x vector old table' (r + 1)

@@ -1,5 +1,5 @@
 -- One edge is raised.
-use Rattle.std.proofs.Common.{◌≡◌, ◌≢◌, ℕ, ◌<◌, List, length, set, refl, Bool, true, arith, ap, sym, ◌∙◌, inl, inr, subst}
+use Rattle.std.proofs.Common.{◌≡◌, ◌≢◌, ℕ, ◌<◌, List, length, set, Bool, true, arith, ap, sym, ◌∙◌, inl, inr, subst}
 use Rattle.std.specs.Prelude.{ℤ, ◌+ℤ◌, ◌-ℤ◌, ◌≤ℤ◌, pos}
 use Rattle.std.proofs.lemmas.Int.{ints}
 use Rattle.std.proofs.lemmas.List.{length-set}
@@ -17,16 +17,6 @@ use Rattle.pf_forest.proofs.Joining.{join_tight, join_refines, join_meets, join_
 pub forest_moves : (g : Digraph) (limit : ℤ) (vector heads rooms heads' rooms' : List ℤ) (groups : List ℕ) → IsForest g limit vector heads rooms groups →
     IsHeld g limit vector heads' rooms' → IsForest g limit vector heads' rooms' groups
 forest_moves g limit vector heads rooms heads' rooms' groups f h = record { held = h; sparse = f.sparse; full = f.full; low = f.low; tight = f.tight }
-
-pub raise_nothing : (g : Digraph) (vector : List ℤ) (groups : List ℕ) (e u v : ℕ) (goal : ℤ) → u ≡ tail_of g.ends e → v ≡ head_of g.ends e → label groups u ≡ label groups v →
-    at_arc vector e ≤ℤ goal → IsRaised g vector groups vector groups e goal
-raise_nothing g vector groups e u v goal tail head same most = record {
-  others = λ k other. refl;
-  more = omega (arith, ints);
-  most = most;
-  done = inr (ap (label groups) (sym tail) ∙ same ∙ ap (label groups) head);
-  refines = record { joins = λ a b low_a low_b e. e };
-}
 
 -- the edge gets to its goal
 pub raise_full : (g : Digraph) (limit : ℤ) (vector heads rooms : List ℤ) (groups : List ℕ) (u v e : ℕ) (amount goal : ℤ) (vector' heads' rooms' : List ℤ) →

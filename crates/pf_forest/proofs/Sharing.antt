@@ -168,10 +168,6 @@ high_cons x y xs ys n h l (suc i) low = l i (omega (arith, low))
 
 -- ---- one unit of an edge: if neither end can take it, some set lacks room
 
-cond_one : (b : Bool) → (pos 0 ≤ℤ cond b (pos 1) (pos 0)) × (cond b (pos 1) (pos 0) ≤ℤ pos 1)
-cond_one true = (omega (arith, ints), omega (arith, ints))
-cond_one false = (omega (arith, ints), omega (arith, ints))
-
 -- a set that holds one end and not the other, and has no room left
 record IsFull (ends : List (ℕ × ℕ)) (numbers rooms : List ℤ) (u w : ℕ) (side : List Bool) : Type 0 where
   holds : has side u ≡ true

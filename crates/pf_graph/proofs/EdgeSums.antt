@@ -4,7 +4,7 @@ use Rattle.std.specs.Prelude.{ℤ, ◌+ℤ◌, ◌≤ℤ◌, pos}
 use Rattle.std.proofs.lemmas.Int.{ints}
 use Rattle.std.proofs.lemmas.List.{length-map}
 use Rattle.pf_model.specs.Cut.{sum_where, has}
-use Rattle.pf_model.proofs.Sums.{sum_next, sum_all, none_after, take_whole}
+use Rattle.pf_model.proofs.Sums.{sum_next, none_after, take_whole}
 use Rattle.pf_graph.specs.WeightedGraph.{cost_of}
 use Rattle.pf_graph.specs.Labels.{crosses, crossing_edges}
 use Rattle.pf_model.proofs.Facts.{number_at}
@@ -37,12 +37,6 @@ next_sum test ends numbers i x z here full low sum is small step =
       low = low_step here x z (get_or numbers i 0) sum.low step;
       high = high_step here x z (get_or numbers i 0) i (2 ^ 32) sum.high small step;
     }
-
-pub whole_sum : (test : ℕ × ℕ → Bool) (ends : List (ℕ × ℕ)) (numbers : List ℕ) (i : ℕ) (x : ℤ) → length numbers ≡ length ends → length ends ≤ i →
-    IsSum test ends numbers i x → x ≡ sum_where test ends (map pos numbers)
-whole_sum test ends numbers i x full all sum =
-    let long = length-map numbers pos in
-    sum.sum_is ∙ sum_all test ends (map pos numbers) i (omega (arith, full, long)) all
 
 -- the same of the costs of the vertices of a side
 pub record IsCost (costs : List ℕ) (side : List Bool) (v : ℕ) (sum : ℤ) : Type 0 where
@@ -112,6 +106,3 @@ next_count labels ends i count z here low sum is step =
       count_is = rw add-one (omega (arith, more, same, before, step));
       few = few_step here count i z sum.few step;
     }
-
-pub whole_count : (labels : List ℕ) (ends : List (ℕ × ℕ)) (i count : ℕ) → length ends ≤ i → IsCount labels ends i count → count ≡ crossing_edges ends labels
-whole_count labels ends i count all sum = sum.count_is ∙ ap (λ xs. crossing_edges xs labels) (take_whole ends i all)

@@ -8,7 +8,7 @@ use Rattle.std.proofs.lemmas.List.{length-set, get_or-set_same, get_or-set_other
 use Rattle.pf_graph.specs.Labels.{label, greatest_label, IsPartition, IsPartitionOf}
 use Rattle.pf_graph.specs.Keeping.{IsKeptPartition}
 use Rattle.pf_graph.proofs.Counting.{label_top}
-use Rattle.pf_graph.proofs.SamePartition.{top_take, take_whole}
+use Rattle.pf_graph.proofs.SamePartition.{top_take}
 
 -- the first v vertices have their labels, of which count is the greatest
 pub record IsNumbered (groups labels : List ℕ) (v count : ℕ) : Type 0 where
@@ -157,11 +157,6 @@ ends groups labels v count n all = record {
     back = record { joins = λ u w less less' e. n.back u w (omega (arith, less, all)) (omega (arith, less', all)) e };
   };
 }
-
-pub ends_count : (groups labels : List ℕ) (v count : ℕ) → IsNumbered groups labels v count → length groups ≤ v → count ≡ greatest_label labels
-ends_count groups labels v count n all =
-    let full = n.full in
-    n.count_is ∙ ap greatest_label (take_whole labels v (omega (arith, all, full)))
 
 pub kept : (groups labels : List ℕ) (count : ℕ) → IsPartitionOf groups labels → count ≡ greatest_label labels → 0 < length groups → length groups ≤ 8192 → IsKeptPartition labels count
 kept groups labels count p e some few =

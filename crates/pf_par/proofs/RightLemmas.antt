@@ -1,5 +1,5 @@
 -- Verdicts on texts of curves.
-use Rattle.std.proofs.Common.{◌≡◌, ℕ, Bool, true, false, List, sym, subst, ◌∙◌}
+use Rattle.std.proofs.Common.{◌≡◌, ℕ, Bool, true, List, sym, subst, ◌∙◌}
 use Rattle.std.specs.Prelude.{◌↔◌}
 use Rattle.pf_model.specs.Network.{Network, IsMonotone}
 use Rattle.pf_model.specs.Curve.{CertifiesCurve}
@@ -20,10 +20,6 @@ certified_text net text curve holds shape text_is exact = (
   λ yes'. record { curve = curve; shape = shape; certificate = exact.0 yes'; text_is = text_is },
   λ certified. exact.1 (subst (Holds net) (same_curve net certified.curve curve certified.shape shape (sym certified.text_is ∙ text_is)) certified.certificate),
 )
-
--- it is the text of no such curve
-pub no_text : (net : Network) (text : List ℕ) → ((curve : Curve) → IsCurveShape net curve → text ≡ curve_text net curve → ⊥) → (false ≡ true) ↔ IsCertifiedCurve net text
-no_text net text none = (λ same. absurd cc, λ certified. absurd (none certified.curve certified.shape certified.text_is))
 
 -- there is one right verdict
 pub one_verdict : (net : Network) (rest text other : List ℕ) → IsRightCheck net rest text → IsRightCheck net rest other → text ≡ other

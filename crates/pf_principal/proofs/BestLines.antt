@@ -50,10 +50,6 @@ left_is : (g : WeightedGraph) (segments : List Segment) (levels : List Fraction)
 left_is g segments levels partitions f zero low = refl
 left_is g segments levels partitions f (suc i) low = sym (f.right i (omega arith)) ∙ ap (level_at levels) (add-one i)
 
--- the right end of a segment, which is the top for the last one
-right_end : Fraction → List Segment → ℕ → Fraction
-right_end high segments i = left_end high segments (i + 1)
-
 best_right : (g : WeightedGraph) (segments : List Segment) (levels : List Fraction) (partitions : List (List ℕ)) → IsWholeEnvelope g segments → Fits g segments levels partitions →
     (i : ℕ) → i < length segments → IsBest g (segment_at segments i).right (partition_at partitions i)
 best_right g segments levels partitions env f i low =

@@ -37,27 +37,6 @@ certified_from g a first last n s e f ends steps all = record {
   right = λ j low. let m = steps.each j (omega (arith, low, all)) in forest_from g a j (j + 1) (s.partition (j + 1) (omega (arith, low))).full m m.both.with_right;
 }
 
-pub ends_from : (g : WeightedGraph) (a : PrincipalAnswer) (first last : List ℕ) → first ≡ partition_at a.partitions 0 → last ≡ partition_at a.partitions (length a.levels) →
-    CertifiesPrincipal g a → HasEnds g first last
-ends_from g a first last e f c = record { uncrossed = ap (crossing_of g) e ∙ c.first; single = ap parts f ∙ c.last }
-
-pub step_from : (g : WeightedGraph) (a : PrincipalAnswer) (j : ℕ) → j < length a.levels → CertifiesPrincipal g a → MeetsStep g a j
-step_from g a j low c =
-    let l = c.left j low in
-    let r = c.right j low in
-    record {
-      rise = c.rise j low;
-      parts_rise = c.parts_rise j low;
-      both = record {
-        parameter = l.parameter;
-        level = l.level;
-        range = l.range;
-        with_left = l.sum;
-        with_right = r.sum;
-        splits_are = record { each = l.splits_are };
-      };
-    }
-
 -- elements of lists that are known by an equation
 pub partition_seen : (ps qs : List (List ℕ)) (i : ℕ) (r : List ℕ) → ps ≡ qs → r ≡ get_or ps i r → i < length qs → r ≡ partition_at qs i
 partition_seen ps qs i r p e low = e ∙ ap (λ l. get_or l i r) p ∙ get_or_default qs i r [] low

@@ -113,9 +113,6 @@ blocked_by g x labels a partition level some = record {
 pub connected_by : (g : WeightedGraph) (x : Fraction) (labels : List ℕ) → AreComponents g labels → parts labels ≤ 1 → IsConnectedAbove g x
 connected_by g x labels a few = record { one = λ level other full none. let m = a.most other full none in omega (arith, m, few) }
 
-pub connected_at_zero : (g : WeightedGraph) (x : Fraction) → x.p ≤ℤ pos 0 → IsConnectedAbove g x
-connected_at_zero g x low = record { one = λ level other full none. absurd (omega (arith, ints, level, low)) }
-
 -- the test on the number of parts
 pub told_more : (k n : ℕ) → nat_lt 1 k ≡ true → k ≡ n → 1 < n
 told_more k n e f = let h : 1 < k = grind (arith, nat_tests) in omega (arith, h, f)

@@ -80,12 +80,6 @@ certified_from g a partition parameter ratio range sum splits =
       };
     }
 
-pub ratio_from : (g : WeightedGraph) (a : StrengthAnswer) → CertifiesStrength g a → IsRatio g a.level a.parts
-ratio_from g a c =
-    let e = worth_is (crossing_of g a.parts) a.level.q a.level.p (parts a.parts) in
-    let r = c.ratio in
-    record { two = c.two; level = c.forest.level; none = omega (arith, ints, e, r) }
-
 pub splits_from : (g : WeightedGraph) (a : StrengthAnswer) → CertifiesStrength g a → AreSplits g a.level a.vector a.splits 0 g.nodes
 splits_from g a c = record {
   each = λ r low.
