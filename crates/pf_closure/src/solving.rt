@@ -132,6 +132,22 @@ fn solve(
     Ok(answer)
 }
 
+// The answer, found with one finder of the network.
+fn find_least(alloc: Global, items: &Items, finder: &mut Finder<'_>) -> Result<Ratio, NoMemory>
+    requires { finder.old ≡ closure_net items.now }
+    ensures least { IfOk result (λ r. IsLeastRatio items.now r.ratio r.chosen) }
+    ensures certificate { IfOk result (λ r. CertifiesRatio items.now r.ratio r.chosen r.routing) }
+    ensures shape { IfOk result (IsRatioShape items.now) }
+{
+    let frame = finder.net().frame();
+    let nodes = frame.nodes() as usize;
+    let arcs = frame.arcs() as usize;
+    let mut side = whole_side(alloc, items)?;
+    let mut next = vec![in alloc; false; nodes]?;
+    let mut flow = vec![in alloc; 0i128; arcs]?;
+    solve(alloc, items, finder, &mut side, &mut next, &mut flow)
+}
+
 /// The least ratio of cost over weight of a nonempty closure, with the closure that contains all others of that ratio, and the
 /// numbers on the needs that certify both, in units of `1/q` of the ratio `p/q`. The only other answer is `NoMemory`.
 ///
@@ -143,12 +159,6 @@ pub fn least_ratio(alloc: Global, items: &Items) -> Result<Ratio, NoMemory>
     ensures shape { IfOk result (IsRatioShape items.now) }
 {
     let net = closure_net(alloc, items)?;
-    let frame = net.frame();
-    let nodes = frame.nodes() as usize;
-    let arcs = frame.arcs() as usize;
     let mut finder = Finder::make(alloc, &net)?;
-    let mut side = whole_side(alloc, items)?;
-    let mut next = vec![in alloc; false; nodes]?;
-    let mut flow = vec![in alloc; 0i128; arcs]?;
-    solve(alloc, items, &mut finder, &mut side, &mut next, &mut flow)
+    find_least(alloc, items, &mut finder)
 }

@@ -4,6 +4,8 @@ ghost use Rattle.pf_model.specs.declared.Sense.TheVariants.{Rising, Falling};
 ghost use Rattle.pf_model.specs.Network.{IsInInterval, IsMonotone};
 ghost use Rattle.pf_model.specs.Curve.{IsCurve, CertifiesCurve, flow_at};
 ghost use Rattle.pf_model.specs.Answer.{IsCurveShape, IsFractionShape};
+ghost use Rattle.pf_envelope.specs.Envelope.{IsLowerEnvelope};
+ghost use Rattle.pf_curve.specs.Cuts.{IsCutFound, IsLineOfCut};
 ghost use Rattle.pf_curve.specs.Flows.{AreFilled, AreGreatest, IsRow};
 
 use crate::between::Opened;
@@ -166,11 +168,12 @@ fn table_of(alloc: Global, rows: Rows) -> Result<FlowTable, NoMemory>
     Ok(table)
 }
 
-// The least-cut function of a rising network without flows.
-fn rising_cuts(alloc: Global, net: &Net) -> Result<CutFunction, NoMemory>
+// The lower envelope of the lines of all cuts of a rising network, each with its smallest least cut.
+fn parts_of(alloc: Global, net: &Net) -> Result<Vec<Part<Cut>>, NoMemory>
     requires { net.now.sense ≡ Rising }
-    ensures curve { IfOk result (λ c. IsCurve net.now c.points c.cuts) }
-    ensures shape { IfOk result (λ c. All IsFractionShape c.points) }
+    ensures members { IfOk result (λ parts. All (λ p. IsCutFound net.now p.member.at p.member.line p.member.side.items) parts.items) }
+    ensures envelope { IfOk result (λ parts. IsLowerEnvelope (IsLineOfCut net.now) net.now.low net.now.high
+        (map (λ p. record { right = p.right; line = p.member.line }) parts.items)) }
 {
     // Gives the proof what every network keeps.
     let _ = net.frame().nodes();
@@ -180,6 +183,18 @@ fn rising_cuts(alloc: Global, net: &Net) -> Result<CutFunction, NoMemory>
         opened: Opened::none(),
     };
     let parts = envelope(alloc, &mut family, net.lo(), net.hi())?;
+    Ok(parts)
+}
+
+// The least-cut function of a rising network without flows.
+fn rising_cuts(alloc: Global, net: &Net) -> Result<CutFunction, NoMemory>
+    requires { net.now.sense ≡ Rising }
+    ensures curve { IfOk result (λ c. IsCurve net.now c.points c.cuts) }
+    ensures shape { IfOk result (λ c. All IsFractionShape c.points) }
+{
+    // Gives the proof what every network keeps.
+    let _ = net.frame().nodes();
+    let parts = parts_of(alloc, net)?;
     let points = points_of(alloc, net.lo(), parts.as_slice())?;
     let cuts = sides_of(alloc, parts)?;
     Ok(CutFunction::new(points, cuts))
@@ -217,6 +232,16 @@ struct Searched {
     rows: Rows,
 }
 
+// A greatest flow at each point, found with one finder.
+fn rows_of(alloc: Global, net: &Net, points: &[Rat]) -> Result<Rows, NoMemory>
+    requires { All (IsInInterval net.now) points.now }
+    ensures { IfOk result (AreGreatest net.now points.now) }
+{
+    let mut finder = Finder::make(alloc, net)?;
+    let flows = flows_at(alloc, &mut finder, points)?;
+    Ok(flows.rows)
+}
+
 // The whole least-cut function of a rising network, and a greatest flow at each point.
 fn search(alloc: Global, net: &Net) -> Result<Searched, NoMemory>
     requires { net.now.sense ≡ Rising }
@@ -228,12 +253,8 @@ fn search(alloc: Global, net: &Net) -> Result<Searched, NoMemory>
     // Gives the proof what every network keeps.
     let _ = net.frame().nodes();
     let found = rising_cuts(alloc, net)?;
-    let mut finder = Finder::make(alloc, net)?;
-    let flows = flows_at(alloc, &mut finder, found.points())?;
-    Ok(Searched {
-        found,
-        rows: flows.rows,
-    })
+    let rows = rows_of(alloc, net, found.points())?;
+    Ok(Searched { found, rows })
 }
 
 // A curve of a network, from its least-cut function and a greatest flow at each point.

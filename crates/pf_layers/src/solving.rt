@@ -1,6 +1,9 @@
 // Layers, read off the whole least-cut function of a network.
 ghost use Rattle.std.specs.Prelude.{◌≡◌, ◌++◌, ◌∷◌, [], ◌⊎◌, ◌<◌, suc, pos, IfOk, length, replicate, All};
 ghost use Rattle.pf_model.specs.Answer.{IsFractionShape};
+ghost use Rattle.pf_model.specs.Curve.{IsCurve};
+ghost use Rattle.pf_closure.specs.Reduction.{closure_net};
+ghost use Rattle.pf_dense.specs.Reduction.{dense_net};
 ghost use Rattle.pf_layers.specs.Answer.{IsDenseAnswer, IsRatioAnswer, IsLayersAnswer};
 ghost use Rattle.pf_layers.specs.Reading.{AreFalling, AreRising, IsEnded};
 ghost use Rattle.pf_layers.specs.Right.{IsRightLayers};
@@ -76,6 +79,33 @@ fn add_rest(levels: &mut Points, layers: &[i128], count: usize) -> Result<(), No
     Ok(())
 }
 
+// The layers of a graph, read off the least-cut function of its network.
+fn read_dense(alloc: Global, graph: &Graph, curve: &CutFunction) -> Result<Layers, NoMemory>
+    requires { IsCurve (dense_net graph.now) curve.now.points curve.now.cuts }
+    ensures { IfOk result (IsDenseAnswer graph.now) }
+{
+    let count = graph.vertices() as usize;
+    let cuts = curve.points().len() - 1;
+    let mut layers = vec![in alloc; 1i128; count]?;
+    number_vertices(graph, curve, &mut layers);
+    let mut levels = falling_levels(alloc, graph, curve)?;
+    add_rest(&mut levels, &layers, cuts)?;
+    Ok(Layers::new(levels, Numbers::from_vec(layers)))
+}
+
+// The layers of items, read off the least-cut function of their network.
+fn read_ratio(alloc: Global, items: &Items, curve: &CutFunction) -> Result<Layers, NoMemory>
+    requires { IsCurve (closure_net items.now) curve.now.points curve.now.cuts }
+    ensures { IfOk result (IsRatioAnswer items.now) }
+{
+    let width = items.items() as usize;
+    let count = curve.points().len() - 2;
+    let mut layers = vec![in alloc; 1i128; width]?;
+    number_items(items, curve, count, &mut layers);
+    let levels = rising_levels(alloc, items, curve, count)?;
+    Ok(Layers::new(levels, Numbers::from_vec(layers)))
+}
+
 /// The layers of a graph: first the densest set, the greatest one, then the set that brings most for its cost beside it, and so on,
 /// down to the vertices that bring nothing, at the level 0. `NoMemory` is the only other answer.
 ///
@@ -84,15 +114,10 @@ fn add_rest(levels: &mut Points, layers: &[i128], count: usize) -> Result<(), No
 pub fn dense_layers(alloc: Global, graph: &Graph) -> Result<Layers, NoMemory>
     ensures { IfOk result (IsDenseAnswer graph.now) }
 {
-    let count = graph.vertices() as usize;
     let net = dense_net(alloc, graph)?;
     let curve = cuts_of(alloc, &net)?;
-    let cuts = curve.points().len() - 1;
-    let mut layers = vec![in alloc; 1i128; count]?;
-    number_vertices(graph, &curve, &mut layers);
-    let mut levels = falling_levels(alloc, graph, &curve)?;
-    add_rest(&mut levels, &layers, cuts)?;
-    Ok(Layers::new(levels, Numbers::from_vec(layers)))
+    let layers = read_dense(alloc, graph, &curve)?;
+    Ok(layers)
 }
 
 /// The layers of items: first the closure of the least ratio, the greatest one, then the items of the least ratio that make a closure
@@ -100,14 +125,10 @@ pub fn dense_layers(alloc: Global, graph: &Graph) -> Result<Layers, NoMemory>
 pub fn ratio_layers(alloc: Global, items: &Items) -> Result<Layers, NoMemory>
     ensures { IfOk result (IsRatioAnswer items.now) }
 {
-    let width = items.items() as usize;
     let net = closure_net(alloc, items)?;
     let curve = cuts_of(alloc, &net)?;
-    let count = curve.points().len() - 2;
-    let mut layers = vec![in alloc; 1i128; width]?;
-    number_items(items, &curve, count, &mut layers);
-    let levels = rising_levels(alloc, items, &curve, count)?;
-    Ok(Layers::new(levels, Numbers::from_vec(layers)))
+    let layers = read_ratio(alloc, items, &curve)?;
+    Ok(layers)
 }
 
 /// The layers of a problem of either kind. `NoMemory` is the only other answer.

@@ -181,3 +181,9 @@ pub is_answer : (g found : WeightedGraph) (levels got : List Fraction) (partitio
 is_answer g found levels got partitions vectors splits a best is_found is_got filled e =
     let here : AreFilled g levels vectors splits (length levels) = rw (is_found, is_got) at filled in
     rw e (record { best = best; filled = here })
+
+-- as the code calls it
+pub filled_in : (g : WeightedGraph) (levels got : List Fraction) (partitions : List (List ℕ)) (vectors splits : List (List ℤ)) (a : PrincipalAnswer) → got ≡ levels →
+    AreFilled g got vectors splits (length got) → a ≡ answer_of levels partitions vectors splits →
+    AreFilled g levels a.vectors a.splits (length levels)
+filled_in g levels got partitions vectors splits a is_levels filled e = rw (e, ← is_levels) filled

@@ -1,6 +1,8 @@
 // The principal partition, with its certificate.
-ghost use Rattle.std.specs.Prelude.{◌≡◌, ◌≤◌, IfOk};
+ghost use Rattle.std.specs.Prelude.{◌≡◌, ◌≤◌, IfOk, length, All};
 ghost use Rattle.pf_graph.specs.Best.{IsPrincipal};
+ghost use Rattle.pf_principal.specs.Lines.{IsLevel};
+ghost use Rattle.pf_principal.specs.Rows.{AreFilled};
 ghost use Rattle.pf_principal.specs.Principal.{IsPrincipalShape, CertifiesPrincipal};
 
 use crate::family::Bests;
@@ -31,6 +33,23 @@ impl Model for Principal {
     ghost Value = { PrincipalAnswer };
 
     ghost view = { λ p. record { levels = p.levels; partitions = p.parts; vectors = p.vectors; splits = p.splits } };
+}
+
+// The answer of these levels and partitions, with a vector and splits for each level.
+fn with_tables(
+    alloc: Global,
+    forest: &mut Forest<'_>,
+    levels: Points,
+    parts: Partitions,
+) -> Result<Principal, NoMemory>
+    requires { All IsLevel levels }
+    ensures answer { IfOk result (λ a. a ≡ record { levels = levels; partitions = parts; vectors = a.vectors; splits = a.splits }) }
+    ensures filled { IfOk result (λ a. AreFilled forest.old.graph levels a.vectors a.splits (length levels)) }
+{
+    let mut vectors = FlowTable::new(alloc);
+    let mut splits = FlowTable::new(alloc);
+    fill_tables(alloc, forest, levels.get(), &mut vectors, &mut splits)?;
+    Ok(Principal::new(levels, parts, vectors, splits))
 }
 
 impl Principal {
@@ -69,16 +88,8 @@ impl Principal {
         let parts = envelope(alloc, &mut family, &low, &high)?;
         let levels = levels_of(alloc, parts.as_slice())?;
         let partitions = partitions_of(alloc, parts)?;
-        let mut vectors = FlowTable::new(alloc);
-        let mut splits = FlowTable::new(alloc);
-        fill_tables(
-            alloc,
-            &mut family.forest,
-            levels.get(),
-            &mut vectors,
-            &mut splits,
-        )?;
-        Ok(Principal::new(levels, partitions, vectors, splits))
+        let answer = with_tables(alloc, &mut family.forest, levels, partitions)?;
+        Ok(answer)
     }
 
     /// The levels, rising.

@@ -1,9 +1,11 @@
 // The schedule of a catalogue, read off the whole least-cut function of its network.
 ghost use Rattle.std.specs.Prelude.{◌≡◌, suc, IfOk, length};
+ghost use Rattle.pf_model.specs.Answer.{IsCurveShape};
+ghost use Rattle.pf_model.specs.Curve.{IsCurve, CertifiesCurve};
 ghost use Rattle.pf_select.specs.Problem.{IsBestSchedule};
 ghost use Rattle.pf_select.specs.Certificate.{CertifiesSchedule};
 ghost use Rattle.pf_select.specs.Right.{IsScheduleShape};
-ghost use Rattle.pf_select.specs.Reduction.{sink_node, selection_of};
+ghost use Rattle.pf_select.specs.Reduction.{sink_node, select_net, selection_of};
 ghost use Rattle.pf_select.specs.Carried.{ArePrices, AreSelections, AreCarried, AreWide, AreAllWide};
 
 use crate::catalogue::Catalogue;
@@ -81,6 +83,35 @@ fn carried(
     Ok(charges)
 }
 
+// The least-cut function of the catalogue's network, with a greatest flow at each point.
+fn curve_in(alloc: Global, catalogue: &Catalogue) -> Result<Curve, NoMemory>
+    ensures curve { IfOk result (λ c. IsCurve (select_net catalogue.now) c.points c.cuts) }
+    ensures certificate { IfOk result (λ c. CertifiesCurve (select_net catalogue.now) c.points c.cuts c.flows) }
+    ensures shape { IfOk result (IsCurveShape (select_net catalogue.now)) }
+{
+    let net = select_net(alloc, catalogue)?;
+    let curve = curve_of(alloc, &net)?;
+    Ok(curve)
+}
+
+// The schedule that the curve shows.
+fn schedule_of(alloc: Global, catalogue: &Catalogue, curve: &Curve) -> Result<Schedule, NoMemory>
+    requires curve { IsCurve (select_net catalogue.now) curve.now.points curve.now.cuts }
+    requires certificate { CertifiesCurve (select_net catalogue.now) curve.now.points curve.now.cuts curve.now.flows }
+    requires shape { IsCurveShape (select_net catalogue.now) curve.now }
+    ensures best { IfOk result (λ s. IsBestSchedule catalogue.now s.prices s.selections) }
+    ensures certificate { IfOk result (λ s. CertifiesSchedule catalogue.now s.prices s.selections s.charges) }
+    ensures shape { IfOk result (IsScheduleShape catalogue.now) }
+{
+    // Gives the proof the limits of the catalogue.
+    let _ = catalogue.parts();
+    let count = curve.points().len() - 2;
+    let prices = inner_points(alloc, catalogue, curve, count)?;
+    let sets = selections(alloc, catalogue, curve)?;
+    let charges = carried(alloc, catalogue, curve, count)?;
+    Ok(Schedule::new(prices, sets, charges))
+}
+
 impl Schedule {
     /// The best schedule of the catalogue, with charges that certify it. `NoMemory` is the only other answer.
     ///
@@ -92,14 +123,8 @@ impl Schedule {
         ensures certificate { IfOk result (λ s. CertifiesSchedule catalogue.now s.prices s.selections s.charges) }
         ensures shape { IfOk result (IsScheduleShape catalogue.now) }
     {
-        // Gives the proof the limits of the catalogue.
-        let _ = catalogue.parts();
-        let net = select_net(alloc, catalogue)?;
-        let curve = curve_of(alloc, &net)?;
-        let count = curve.points().len() - 2;
-        let prices = inner_points(alloc, catalogue, &curve, count)?;
-        let sets = selections(alloc, catalogue, &curve)?;
-        let charges = carried(alloc, catalogue, &curve, count)?;
-        Ok(Schedule::new(prices, sets, charges))
+        let curve = curve_in(alloc, catalogue)?;
+        let schedule = schedule_of(alloc, catalogue, &curve)?;
+        Ok(schedule)
     }
 }

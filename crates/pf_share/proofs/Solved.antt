@@ -6,7 +6,7 @@ use Rattle.std.proofs.lemmas.Bool.{cases_lt}
 use Rattle.std.proofs.lemmas.List.{get_or_push, get_or_append_left, get_or_default}
 use Rattle.std.proofs.lemmas.List.Elements.{All-get_or}
 use Rattle.pf_model.specs.declared.AffineArc.{AffineArc}
-use Rattle.pf_model.specs.Fraction.{Fraction, lowest}
+use Rattle.pf_model.specs.Fraction.{Fraction}
 use Rattle.pf_model.specs.Answer.{IsFractionShape, IsWithinSize}
 use Rattle.pf_model.specs.Limits.{capacity_bound}
 use Rattle.pf_model.specs.Cut.{at_arc}
@@ -19,7 +19,7 @@ use Rattle.pf_share.specs.Problem.{ShareProblem, IsBoundedSharing, no_share, tai
 use Rattle.pf_share.specs.Certificate.{SharesAnswer, CertifiesShares, IsBestShares}
 use Rattle.pf_share.specs.Right.{IsSharesShape}
 use Rattle.pf_share.specs.Reduction.{flow_arc, source_arc, flow_arcs, source_arcs, highest, share_net, IsJoin, join_at, AreJoins, IsFirst, AreLevelsOf, group_of, AreGroupsOf, AreWide}
-use Rattle.pf_share.specs.Grouped.{answer_of, HasFlow, IsStill}
+use Rattle.pf_share.specs.Grouped.{answer_of, IsStill, IsSplit}
 use Rattle.pf_share.proofs.Soundness.{certified_fair}
 use Rattle.pf_share.proofs.FlowExists.{flow_exists}
 use Rattle.pf_model.proofs.Sums.{take_whole}
@@ -130,11 +130,6 @@ last_unit p points cuts v s =
     (same_fraction x highest (point_is_parameter (share_net p) points cuts v.division (length cuts) (omega arith)) (omega (arith, ints))
     shape.lowest (whole_lowest (pos 10000000000001)) v.division.high)
 
--- levels and groups with no flow yet
-pub record IsSplit (p : ShareProblem) (a : SharesAnswer) : Type 0 where
-  pub shape : IsSharesShape p a
-  pub some : HasFlow p a.levels a.groups
-
 still_sized : (still : List ℤ) → IsStill still → All (IsWithinSize capacity_bound) still
 still_sized still s = λ i d low.
     let e = get_or_default still i d (pos 0) low ∙ s.each i in
@@ -158,6 +153,7 @@ split_from p points cuts levels groups still joins first b v shapes j f l count 
         flow_full = full;
         flow = still_sized still s;
       };
+      still = s;
       some = some;
     }
 

@@ -8,6 +8,7 @@ use Rattle.pf_model.specs.Cut.{FlowNetwork, at_arc, sum_where}
 use Rattle.pf_model.specs.Network.{network_at}
 use Rattle.pf_share.specs.Problem.{ShareProblem, tail_of, head_of}
 use Rattle.pf_share.specs.Certificate.{SharesAnswer, node_level, is_lower, CertifiesShares}
+use Rattle.pf_share.specs.Right.{IsSharesShape}
 use Rattle.pf_share.specs.Reduction.{share_net}
 
 -- a list of the first values of a function
@@ -64,3 +65,9 @@ pub record HasFlow (p : ShareProblem) (levels : List Fraction) (groups : List �
 -- no number on an arc is above or below 0
 pub record IsStill (flow : List ℤ) : Type 0 where
   pub each : (i : ℕ) → at_arc flow i ≡ pos 0
+
+-- levels and groups that some flow certifies, and no number on an arc yet
+pub record IsSplit (p : ShareProblem) (a : SharesAnswer) : Type 0 where
+  pub shape : IsSharesShape p a
+  pub still : IsStill a.flow
+  pub some : HasFlow p a.levels a.groups

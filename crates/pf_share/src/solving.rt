@@ -1,9 +1,11 @@
 // The fair shares of a network, read off the whole least-cut function of the parametric one.
-ghost use Rattle.std.specs.Prelude.{◌≡◌, ℕ, suc, ◌+◌, ◌<◌, ◌≤◌, IfOk, length};
+ghost use Rattle.std.specs.Prelude.{◌≡◌, ℕ, suc, ◌+◌, ◌<◌, ◌≤◌, IfOk, length, All};
+ghost use Rattle.pf_model.specs.Answer.{IsFractionShape};
+ghost use Rattle.pf_model.specs.Curve.{IsCurve};
 ghost use Rattle.pf_share.specs.Certificate.{CertifiesShares, IsBestShares};
 ghost use Rattle.pf_share.specs.Right.{IsSharesShape};
-ghost use Rattle.pf_share.specs.Grouped.{IsStill};
-ghost use Rattle.pf_share.specs.Reduction.{IsJoin, AreJoins, IsFirst, AreLevelsOf, group_of, AreGroupsOf, join_at, AreWide};
+ghost use Rattle.pf_share.specs.Grouped.{IsStill, IsSplit};
+ghost use Rattle.pf_share.specs.Reduction.{share_net, IsJoin, AreJoins, IsFirst, AreLevelsOf, group_of, AreGroupsOf, join_at, AreWide};
 
 use crate::grouped::group_flow;
 use crate::network::share_net;
@@ -107,6 +109,33 @@ fn still_of(alloc: Global, sharing: &Sharing) -> Result<Numbers, NoMemory>
     Ok(Numbers::from_vec(still))
 }
 
+// The least-cut function of the sharing's network.
+fn curve_in(alloc: Global, sharing: &Sharing) -> Result<CutFunction, NoMemory>
+    ensures curve { IfOk result (λ c. IsCurve (share_net sharing.now) c.points c.cuts) }
+    ensures shape { IfOk result (λ c. All IsFractionShape c.points) }
+{
+    let net = share_net(alloc, sharing)?;
+    let curve = cuts_of(alloc, &net)?;
+    Ok(curve)
+}
+
+// The levels and the groups that the curve shows, with no flow yet.
+fn split_of(alloc: Global, sharing: &Sharing, curve: &CutFunction) -> Result<Shares, NoMemory>
+    requires curve { IsCurve (share_net sharing.now) curve.now.points curve.now.cuts }
+    requires shape { All IsFractionShape curve.now.points }
+    ensures { IfOk result (IsSplit sharing.now) }
+{
+    // Gives the proof what holds of every such network.
+    let _ = sharing.nodes();
+    let cuts = curve.points().len() - 1;
+    let joins = joins_of(alloc, sharing, curve)?;
+    let first = first_of(joins.as_slice());
+    let levels = levels_of(alloc, sharing, curve, first, cuts - first)?;
+    let groups = groups_of(alloc, joins.as_slice(), first, cuts)?;
+    let still = still_of(alloc, sharing)?;
+    Ok(Shares::new(levels, groups, still))
+}
+
 /// The fair shares, with a flow that certifies them. `NoMemory` is the only other answer.
 ///
 /// A parametric network (Gallo, Grigoriadis and Tarjan 1989): the source feeds each node in proportion to its weight, and a node's
@@ -119,15 +148,8 @@ pub fn fair(alloc: Global, sharing: &Sharing) -> Result<Shares, NoMemory>
 {
     // Gives the proof what holds of every such network.
     let _ = sharing.nodes();
-    let net = share_net(alloc, sharing)?;
-    let curve = cuts_of(alloc, &net)?;
-    let cuts = curve.points().len() - 1;
-    let joins = joins_of(alloc, sharing, &curve)?;
-    let first = first_of(joins.as_slice());
-    let levels = levels_of(alloc, sharing, &curve, first, cuts - first)?;
-    let groups = groups_of(alloc, joins.as_slice(), first, cuts)?;
-    let still = still_of(alloc, sharing)?;
-    let split = Shares::new(levels, groups, still);
+    let curve = curve_in(alloc, sharing)?;
+    let split = split_of(alloc, sharing, &curve)?;
     let flow = group_flow(alloc, sharing, &split)?;
     Ok(split.with_flow(flow))
 }

@@ -1,6 +1,7 @@
 // The strength, with its certificate.
 ghost use Rattle.std.specs.Prelude.{◌≡◌, ◌≤◌, IfOk};
 ghost use Rattle.pf_graph.specs.Best.{IsStrength};
+ghost use Rattle.pf_strength.specs.Newton.{IsLast};
 ghost use Rattle.pf_strength.specs.Strength.{IsStrengthShape, CertifiesStrength};
 
 use crate::newton::find;
@@ -29,6 +30,26 @@ impl Model for Strength {
     ghost view = { λ s. record { level = s.level; parts = s.parts; vector = s.vector; splits = s.splits } };
 }
 
+// The answer of the last level, partition and forest.
+fn read_off(
+    alloc: Global,
+    level: Rat,
+    parts: Partition,
+    forest: &mut Forest<'_>,
+) -> Result<Strength, NoMemory>
+    requires { IsLast forest.old.graph level parts forest.old }
+    ensures shape { IfOk result (λ answer. IsStrengthShape forest.old.graph answer) }
+    ensures certified { IfOk result (λ answer. CertifiesStrength forest.old.graph answer) }
+    ensures strength { IfOk result (λ answer. IsStrength forest.old.graph answer.level answer.parts) }
+{
+    let q = level.q();
+    prove!(q >= 1);
+    let vector = Numbers::from_vec(Vec::from_slice(alloc, forest.vector())?);
+    let mut splits = FlowTable::new(alloc);
+    forest.push_splits(alloc, &mut splits)?;
+    Ok(Strength::new(level, parts, vector, splits))
+}
+
 impl Strength {
     /// The answer of these fields, whatever they hold. It takes no memory.
     pub fn new(level: Rat, parts: Partition, vector: Numbers, splits: FlowTable) -> Strength
@@ -54,12 +75,8 @@ impl Strength {
         let mut forest = Forest::make(alloc, graph)?;
         let mut parts = Partition::of(alloc, forest.partition().labels())?;
         let level = find(graph, &mut forest, &mut parts);
-        let q = level.q();
-        prove!(q >= 1);
-        let vector = Numbers::from_vec(Vec::from_slice(alloc, forest.vector())?);
-        let mut splits = FlowTable::new(alloc);
-        forest.push_splits(alloc, &mut splits)?;
-        Ok(Strength::new(level, parts, vector, splits))
+        let answer = read_off(alloc, level, parts, &mut forest)?;
+        Ok(answer)
     }
 
     /// The level, in lowest terms.

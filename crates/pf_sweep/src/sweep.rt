@@ -366,6 +366,31 @@ fn start_at(
     seek(net, at, caps, flow, scratch, cut);
 }
 
+// Room for capacities and a flow, indexed by arcs, and for a cut.
+#[derive(Drop)]
+struct Room {
+    caps: Vec<i128>,
+    flow: Vec<i128>,
+    cut: KeptCut,
+}
+
+// The room for so many nodes and arcs, with nothing in it yet.
+fn room_for(alloc: Global, nodes: usize, arcs: usize) -> Result<Room, NoMemory>
+    ensures caps { IfOk result (λ r. length r.caps.items ≡ arcs) }
+    ensures flow { IfOk result (λ r. length r.flow.items ≡ arcs) }
+    ensures places { IfOk result (λ r. length r.cut.side.items ≡ nodes) }
+{
+    let caps = vec![in alloc; 0i128; arcs]?;
+    let flow = vec![in alloc; 0i128; arcs]?;
+    let side = vec![in alloc; false; nodes]?;
+    let cut = KeptCut {
+        side,
+        line: Line::new(0, 0),
+        size: 0,
+    };
+    Ok(Room { caps, flow, cut })
+}
+
 // A sweep whose unit is not too great.
 fn open<'a>(alloc: Global, net: &'a Net, unit: i128) -> Result<Sweep<'a>, NoMemory>
     requires rising { net.now.sense ≡ Rising }
@@ -381,13 +406,12 @@ fn open<'a>(alloc: Global, net: &'a Net, unit: i128) -> Result<Sweep<'a>, NoMemo
     let at = start_of(net.lo(), unit);
     let mut engine = Engine::make(alloc, frame, net.source(), net.sink())?;
     let mut scratch = Scratch::make(alloc, nodes, arcs)?;
-    let mut caps = vec![in alloc; 0i128; arcs]?;
-    let mut flow = vec![in alloc; 0i128; arcs]?;
-    let mut cut = KeptCut {
-        side: vec![in alloc; false; nodes]?,
-        line: Line::new(0, 0),
-        size: 0,
-    };
+    let room = room_for(alloc, nodes, arcs)?;
+    let Room {
+        mut caps,
+        mut flow,
+        mut cut,
+    } = room;
     start_at(
         net,
         &mut engine,

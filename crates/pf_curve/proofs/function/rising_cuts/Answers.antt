@@ -1,21 +1,12 @@
-use Rattle.std.proofs.Common.{◌≡◌, List, Bool}
+use Rattle.std.proofs.Common.{◌≡◌, List, Bool, refl}
 use Rattle.std.specs.Prelude.{All}
 use Rattle.pf_model.specs.Fraction.{Fraction}
 use Rattle.pf_model.specs.Network.{Network}
 use Rattle.pf_model.specs.Curve.{IsCurve}
 use Rattle.pf_model.specs.Answer.{IsFractionShape}
 use Rattle.pf_curve.specs.CutFunction.{CutFunction}
-use Rattle.pf_curve.proofs.Envelopes.{curve_of_parts, end_served, high_end_served}
+use Rattle.pf_curve.proofs.Envelopes.{curve_of_parts}
 use Rattle.pf_curve.proofs.function.rising_cuts.Goals as goal
-
-pub envelope-requires-clause-interval : goal.envelope-requires-clause-interval
-envelope-requires-clause-interval c = rw (c.lo.ensures, c.hi.ensures) c.frame.ensures.built.monotone.interval
-
-pub envelope-requires-clause-low_served : goal.envelope-requires-clause-low_served
-envelope-requires-clause-low_served c = rw c.in_ok-finder.ensures (end_served c.args.net.now c.lo.result.now c.frame.ensures.built.monotone c.requires c.lo.ensures)
-
-pub envelope-requires-clause-high_served : goal.envelope-requires-clause-high_served
-envelope-requires-clause-high_served c = rw c.in_ok-finder.ensures (high_end_served c.args.net.now c.hi.result.now c.frame.ensures.built.monotone c.requires c.hi.ensures)
 
 curve_made : (net : Network) (points : List Fraction) (cuts : List (List Bool)) (made : CutFunction) →
     made ≡ record { points = points; cuts = cuts } → IsCurve net points cuts → IsCurve net made.points made.cuts
@@ -28,9 +19,9 @@ shape_made points cuts made e h = rw e h
 pub returns-clause-curve : goal.returns-clause-curve
 returns-clause-curve c =
     let m = c.frame.ensures.built.monotone in
-    let curve = curve_of_parts c.args.net.now c.in_ok-finder.finder (λ p. p.right) (λ p. p.member.at) (λ p. p.member.line) (λ p. p.member.side.items) c.in_ok-parts.parts.items
-    c.as_slice.result.now c.lo.result.now c.hi.result.now c.lo-2.result.now c.in_ok-points.points c.in_ok-cuts.cuts m
-    c.in_ok-finder.ensures c.lo.ensures c.hi.ensures c.lo-2.ensures c.as_slice.ensures.value c.in_ok-parts.ensures.members c.in_ok-parts.ensures.envelope
+    let curve = curve_of_parts c.args.net.now c.args.net.now (λ p. p.right) (λ p. p.member.at) (λ p. p.member.line) (λ p. p.member.side.items) c.in_ok-parts.parts.items
+    c.as_slice.result.now c.args.net.now.low c.args.net.now.high c.lo.result.now c.in_ok-points.points c.in_ok-cuts.cuts m
+    refl refl refl c.lo.ensures c.as_slice.ensures.value c.in_ok-parts.ensures.members c.in_ok-parts.ensures.envelope
     c.in_ok-points.ensures.points c.in_ok-cuts.ensures in
     curve_made c.args.net.now c.in_ok-points.points c.in_ok-cuts.cuts c.new.result c.new.ensures curve
 

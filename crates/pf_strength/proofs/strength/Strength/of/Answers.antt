@@ -1,12 +1,10 @@
-use Rattle.std.proofs.Common.{◌≡◌, ℕ, List, ap, sym, ◌∙◌, subst}
-use Rattle.std.specs.Prelude.{ℤ}
+use Rattle.std.proofs.Common.{ℕ, List, ap, sym, ◌∙◌, subst}
+use Rattle.pf_graph.specs.WeightedGraph.{WeightedGraph}
 use Rattle.pf_graph.specs.Labels.{parts, IsPartitionOf}
-use Rattle.pf_graph.specs.Limits.{IsWithinLimits}
 use Rattle.pf_graph.specs.Best.{IsStrength}
-use Rattle.pf_strength.specs.Strength.{StrengthAnswer, IsStrengthShape, CertifiesStrength}
-use Rattle.pf_strength.proofs.Certificate.{certificate_is_strength}
+use Rattle.pf_strength.specs.Strength.{IsStrengthShape, CertifiesStrength}
+use Rattle.pf_strength.specs.Newton.{IsLast}
 use Rattle.pf_strength.proofs.Steps.{same_labels}
-use Rattle.pf_strength.proofs.Whole.{answer_of, adds_here, fits_of, certified_of}
 use Rattle.pf_strength.proofs.strength.Strength.of.Goals as goal
 
 pub find-level-requires-clause-single : goal.find-level-requires-clause-single
@@ -15,43 +13,22 @@ find-level-requires-clause-single c =
     let of = subst P (c.labels.ensures.value ∙ c.partition.ensures) c.in_ok-parts.ensures in
     sym (ap parts (same_labels _ _ _ c.in_ok-forest.ensures.labels of)) ∙ c.in_ok-forest.ensures.single
 
+pub read_off-requires : goal.read_off-requires
+read_off-requires c =
+    let P : WeightedGraph → Type 0 = λ g. IsLast g c.find-level.result c.find-level.new.best c.find-level.new.forest in
+    subst P (sym c.find-level.ensures.graph) c.find-level.ensures
+
 pub returns-clause-shape : goal.returns-clause-shape
 returns-clause-shape c =
-    let x = c.find-level.result in
-    let last = c.find-level.ensures in
-    let adds = adds_here c.args.graph.now c.find-level.result c.find-level.new.forest c.new-splits.result c.push_splits.new.table last.graph c.new-splits.ensures
-    (c.in_ok-push_splits.ensures.splits c.find-level.result last.level) in
-    let e : c.new.result ≡ answer_of c.find-level.result c.find-level.new.best c.find-level.new.forest.vector c.push_splits.new.table =
-    c.new.ensures ∙ ap (λ (v : List ℤ). answer_of c.find-level.result c.find-level.new.best v c.push_splits.new.table)
-    (c.from_vec-vector.ensures ∙ c.in_ok-from_slice.ensures.items ∙ c.vector.ensures.value) in
-    let limits = subst IsWithinLimits last.graph c.vector.ensures.graph in
-    subst (IsStrengthShape c.args.graph.now) (sym e)
-    (record {
-      level = record { bounds = c.q-q.ensures.bounds; lowest = c.q-q.ensures.lowest };
-      fits = fits_of c.args.graph.now c.find-level.result c.find-level.new.best c.find-level.new.forest c.push_splits.new.table limits last c.q-q.ensures.bounds.q_high adds;
-    })
+    let P : WeightedGraph → Type 0 = λ g. IsStrengthShape g c.in_ok-answer.answer in
+    subst P c.find-level.ensures.graph c.in_ok-answer.ensures.shape
 
 pub returns-clause-certified : goal.returns-clause-certified
 returns-clause-certified c =
-    let last = c.find-level.ensures in
-    let adds = adds_here c.args.graph.now c.find-level.result c.find-level.new.forest c.new-splits.result c.push_splits.new.table last.graph c.new-splits.ensures
-    (c.in_ok-push_splits.ensures.splits c.find-level.result last.level) in
-    let e : c.new.result ≡ answer_of c.find-level.result c.find-level.new.best c.find-level.new.forest.vector c.push_splits.new.table =
-    c.new.ensures ∙ ap (λ (v : List ℤ). answer_of c.find-level.result c.find-level.new.best v c.push_splits.new.table)
-    (c.from_vec-vector.ensures ∙ c.in_ok-from_slice.ensures.items ∙ c.vector.ensures.value) in
-    subst (CertifiesStrength c.args.graph.now) (sym e)
-    (certified_of c.args.graph.now c.find-level.result c.find-level.new.best c.find-level.new.forest c.push_splits.new.table last adds)
+    let P : WeightedGraph → Type 0 = λ g. CertifiesStrength g c.in_ok-answer.answer in
+    subst P c.find-level.ensures.graph c.in_ok-answer.ensures.certified
 
 pub returns-clause-strength : goal.returns-clause-strength
 returns-clause-strength c =
-    let last = c.find-level.ensures in
-    let adds = adds_here c.args.graph.now c.find-level.result c.find-level.new.forest c.new-splits.result c.push_splits.new.table last.graph c.new-splits.ensures
-    (c.in_ok-push_splits.ensures.splits c.find-level.result last.level) in
-    let e : c.new.result ≡ answer_of c.find-level.result c.find-level.new.best c.find-level.new.forest.vector c.push_splits.new.table =
-    c.new.ensures ∙ ap (λ (v : List ℤ). answer_of c.find-level.result c.find-level.new.best v c.push_splits.new.table)
-    (c.from_vec-vector.ensures ∙ c.in_ok-from_slice.ensures.items ∙ c.vector.ensures.value) in
-    let limits = subst IsWithinLimits last.graph c.vector.ensures.graph in
-    let S : StrengthAnswer → Type 0 = λ a. IsStrength c.args.graph.now a.level a.parts in
-    subst S (sym e)
-    (certificate_is_strength c.args.graph.now (answer_of c.find-level.result c.find-level.new.best c.find-level.new.forest.vector c.push_splits.new.table) limits.graph last.partition
-    (certified_of c.args.graph.now c.find-level.result c.find-level.new.best c.find-level.new.forest c.push_splits.new.table last adds))
+    let P : WeightedGraph → Type 0 = λ g. IsStrength g c.in_ok-answer.answer.level c.in_ok-answer.answer.parts in
+    subst P c.find-level.ensures.graph c.in_ok-answer.ensures.strength

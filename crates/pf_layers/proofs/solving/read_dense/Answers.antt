@@ -1,17 +1,16 @@
-use Rattle.std.proofs.Common.{◌≡◌, ◌-◌, length, arith, ap, sym, subst, ◌∙◌}
-use Rattle.pf_model.specs.Curve.{IsCurve}
+use Rattle.std.proofs.Common.{◌≡◌, ◌-◌, length, arith, ap, sym, ◌∙◌}
 use Rattle.pf_dense.proofs.DensityLemmas.{written_whole}
 use Rattle.pf_layers.proofs.Answering.{dense_answer}
-use Rattle.pf_layers.proofs.solving.dense_layers.Goals as goal
+use Rattle.pf_layers.proofs.solving.read_dense.Goals as goal
 
 pub returns : goal.returns
 returns c =
     let g = c.args.graph.now in
-    let curve = c.in_ok-curve.curve in
+    let curve = c.args.curve.now in
     let whole = written_whole _ _ c.in_ok-layers.layers.len (c.number_vertices.auto.layers ∙ c.deref_mut.ensures.len) (sym c.deref_mut.ensures.len ∙ ap length c.deref_mut.ensures.value) in
     let got : c.from_vec.result ≡ c.number_vertices.new.layers = c.from_vec.ensures ∙ whole in
     let seen : c.deref.result.now ≡ c.number_vertices.new.layers = c.deref.ensures.value ∙ whole in
-    let there = subst (λ net. IsCurve net curve.points curve.cuts) c.in_ok-net.ensures c.in_ok-curve.ensures.curve in
+    let there = c.requires in
     let count = c.points.ensures.count in
     let shown = ap length c.points.ensures.points in
     dense_answer g curve.points curve.cuts c.in_ok-levels.levels c.add_rest.new.levels c.number_vertices.new.layers c.from_vec.result c.deref.result.now (length c.points.result.now - 1)
