@@ -1,198 +1,172 @@
 -- Answers of the right shape with equal texts are equal.
-use Rattle.std.proofs.Common.{◌≡◌, ℕ, ◌+◌, ◌<◌, ◌≤◌, ◌^◌, List, [], ◌∷◌, ◌++◌, length, get_or, drop, map, refl, sym, ap, ◌∙◌, append_assoc, arith}
-use Rattle.std.specs.Prelude.{ℤ, nat_abs, codes}
+use Rattle.std.proofs.Common.{◌≡◌, ℕ, ◌+◌, ◌≤◌, ◌^◌, List, [], ◌∷◌, ◌++◌, length, get_or, map, refl, sym, ap, ◌∙◌, append_assoc, arith}
+use Rattle.std.specs.Prelude.{ℤ, codes}
 use Rattle.std.specs.List.{AllByRecursion}
 use Rattle.std.specs.Fmt.{decimal, signed_decimal}
-use Rattle.std.proofs.lemmas.Int.{ints}
-use Rattle.std.proofs.lemmas.List.{append-nil}
+use Rattle.std.proofs.lemmas.List.{append_cancel_left}
 use Rattle.std.proofs.lemmas.List.Elements.{recursion_from_All}
 use Rattle.pf_model.specs.Fraction.{Fraction}
 use Rattle.pf_model.specs.Answer.{IsWithinSize}
-use Rattle.pf_frame.specs.Numbers.{IsSized}
-use Rattle.pf_text.specs.Spelling.{line, row_line, fraction_line, label_line}
-use Rattle.pf_text.proofs.SameParts.{within_digits, same_fraction}
+use Rattle.pf_text.specs.Spelling.{line, row_line, fraction_line, label_line, table_text}
+use Rattle.pf_text.proofs.SameParts.{within_digits}
 use Rattle.pf_text.proofs.NumbersLemmas.{one_number}
-use Rattle.pf_text.proofs.TextLines.{ArePlain, lines_text, lines_text-append, same_lines, decimal_plain, signed_plain, numbers_plain}
-use Rattle.pf_graph.specs.WeightedGraph.{WeightedGraph, digraph_of}
+use Rattle.pf_text.proofs.TextLines.{signed_plain}
+use Rattle.pf_format.specs.Format.{HasOneReading}
+use Rattle.pf_format.specs.LineLaws.{labels_plain, line_one, label_row_one, flow_rows_one}
+use Rattle.pf_format.proofs.Formats.{Spelling, then, fraction_row, flow_row}
+use Rattle.pf_format.proofs.ItemLaws.{number_row_one, count_left}
+use Rattle.pf_graph.specs.WeightedGraph.{WeightedGraph}
 use Rattle.pf_graph.specs.Labels.{IsPartition}
 use Rattle.pf_graph.specs.Limits.{IsWithinLimits}
-use Rattle.pf_strength.specs.Text.{splits_text}
-use Rattle.pf_strength.proofs.SameAnswers.{all_short, same_numbers, all_labels, same_labels, labels_plain, split_fields, end, splits_text_is, split_fields_plain, same_splits}
+use Rattle.pf_strength.specs.TextLaws.{labels_of_partition}
+use Rattle.pf_strength.proofs.TextLemmas.{row_of_sized, rows_of_sized}
 use Rattle.pf_reinforce.specs.declared.reinforcement.Reinforcement.{Reinforcement}
 use Rattle.pf_reinforce.specs.declared.reinforcement.Reinforcement.TheVariants.{Added, Blocked}
 use Rattle.pf_reinforce.specs.Reinforcement.{AddedAnswer}
 use Rattle.pf_reinforce.specs.Answer.{IsSizedAdded, IsReinforcementShape}
 use Rattle.pf_reinforce.specs.Text.{threshold_line, thresholds_text, added_text, blocked_text, reinforcement_text}
 
--- ---- the lines of an answer
+-- ---- partitions and thresholds
 
-abbrev Lines : Type 0
-Lines = List (List (List ℕ))
+part_one : (n : ℕ) → n ≤ 500 → HasOneReading (label_line (codes "s") []) (IsPartition n)
+part_one n few x y rest later a b e =
+    label_row_one (codes "s") [] n n (omega (arith, few)) (record { some = omega arith; all = refl }) x y rest later (labels_of_partition n x a) (labels_of_partition n y b) e
 
-abbrev threshold_fields : ℕ → List ℤ → List (List ℕ) → Lines
-threshold_fields j [] partitions = []
-threshold_fields j (price ∷ prices) [] = []
-threshold_fields j (price ∷ prices) (labels ∷ partitions) =
-    (codes "t" ∷ decimal (j + 1) ∷ signed_decimal price ∷ map decimal labels) ∷ threshold_fields (j + 1) prices partitions
+same_threshold : (n : ℕ) → n ≤ 500 → (x y : ℤ × List ℕ) → IsWithinSize (2 ^ 104) x.0 × IsPartition n x.1 → IsWithinSize (2 ^ 104) y.0 × IsPartition n y.1 →
+    signed_decimal x.0 ∷ map decimal x.1 ≡ signed_decimal y.0 ∷ map decimal y.1 → x ≡ y
+same_threshold n few (s, p) (t, q) a b e =
+    let price : signed_decimal s ≡ signed_decimal t = cc in
+    let labels : map decimal p ≡ map decimal q = cc in
+    let here = one_number s t (within_digits (2 ^ 104) s (omega arith) a.0) (within_digits (2 ^ 104) t (omega arith) b.0) price in
+    let back = (part_one n few p q [] [] a.1 b.1 (ap (λ (fields : List (List ℕ)). line (codes "s" ∷ fields) ++ []) labels)).value in
+    cc
 
--- the lines after the number of thresholds
-abbrev back_lines : AddedAnswer → Lines
-back_lines a = threshold_fields 0 a.thresholds a.parts ++ (split_fields 0 a.splits ++ end)
+threshold_one : (n j : ℕ) → n ≤ 500 → HasOneReading (λ (p : ℤ × List ℕ). threshold_line j p.0 p.1) (λ p. IsWithinSize (2 ^ 104) p.0 × IsPartition n p.1)
+threshold_one n j few =
+    line_one (codes "t") (j ∷ []) (λ (p : ℤ × List ℕ). signed_decimal p.0 ∷ map decimal p.1) (λ p. IsWithinSize (2 ^ 104) p.0 × IsPartition n p.1) (record { some = omega arith; all = refl })
+    (λ p. (signed_plain p.0, labels_plain p.1)) (same_threshold n few)
 
-abbrev answer_lines : Reinforcement → Lines
-answer_lines (Added a) =
-    (codes "o" ∷ codes "reinforce" ∷ []) ∷ (codes "d" ∷ signed_decimal a.level.p ∷ signed_decimal a.level.q ∷ []) ∷ (codes "c" ∷ signed_decimal a.cost ∷ [])
-    ∷ (codes "x" ∷ map signed_decimal a.added) ∷ (codes "y" ∷ map signed_decimal a.vector) ∷ (codes "k" ∷ decimal (length a.thresholds) ∷ []) ∷ back_lines a
-answer_lines (Blocked labels) = (codes "o" ∷ codes "reinforce" ∷ []) ∷ (codes "none" ∷ []) ∷ (codes "s" ∷ map decimal labels) ∷ end
-
-thresholds_text_is : (j : ℕ) (prices : List ℤ) (partitions : List (List ℕ)) → thresholds_text j prices partitions ≡ lines_text (threshold_fields j prices partitions)
-thresholds_text_is j [] partitions = refl
-thresholds_text_is j (price ∷ prices) [] = refl
-thresholds_text_is j (price ∷ prices) (labels ∷ partitions) = ap (λ (t : List ℕ). threshold_line (j + 1) price labels ++ t) (thresholds_text_is (j + 1) prices partitions)
-
-nine : (a b c d e f g h i : List ℕ) → (a ++ b ++ c ++ d ++ e) ++ (f ++ g ++ h ++ i) ≡ a ++ (b ++ (c ++ (d ++ (e ++ (f ++ (g ++ (h ++ (i ++ []))))))))
-nine a b c d e f g h i = simp (append_assoc, append-nil)
-
-four : (a b c d : List ℕ) → a ++ b ++ c ++ d ≡ a ++ (b ++ (c ++ (d ++ [])))
-four a b c d = simp (append_assoc, append-nil)
-
-text_is : (answer : Reinforcement) → reinforcement_text answer ≡ lines_text (answer_lines answer)
-unfolding added_text blocked_text
-text_is (Added answer) =
-    let a = line (codes "o" ∷ codes "reinforce" ∷ []) in
-    let b = fraction_line (codes "d") [] answer.level [] in
-    let c = row_line (codes "c") [] (answer.cost ∷ []) in
-    let d = row_line (codes "x") [] answer.added in
-    let e = row_line (codes "y") [] answer.vector in
-    let f = row_line (codes "k") (length answer.thresholds ∷ []) [] in
-    let thresholds = threshold_fields 0 answer.thresholds answer.parts in
-    let splits = splits_text 0 answer.splits in
-    nine a b c d e f (thresholds_text 0 answer.thresholds answer.parts) splits (line (codes "end" ∷ []))
-    ∙ ap (λ (t : List ℕ). a ++ (b ++ (c ++ (d ++ (e ++ (f ++ t))))))
-    (ap (λ (t : List ℕ). t ++ (splits ++ lines_text end)) (thresholds_text_is 0 answer.thresholds answer.parts)
-    ∙ ap (λ (t : List ℕ). lines_text thresholds ++ (t ++ lines_text end)) (splits_text_is 0 answer.splits)
-    ∙ ap (λ (t : List ℕ). lines_text thresholds ++ t) (sym (lines_text-append (split_fields 0 answer.splits) end))
-    ∙ sym (lines_text-append thresholds (split_fields 0 answer.splits ++ end)))
-text_is (Blocked labels) = four (line (codes "o" ∷ codes "reinforce" ∷ [])) (line (codes "none" ∷ [])) (label_line (codes "s") [] labels) (line (codes "end" ∷ []))
-
-end_plain : AllByRecursion ArePlain end
-end_plain = ((record { some = omega arith; all = refl }, tt), tt)
-
-threshold_fields_plain : (j : ℕ) (prices : List ℤ) (partitions : List (List ℕ)) (tail : Lines) → AllByRecursion ArePlain tail →
-    AllByRecursion ArePlain (threshold_fields j prices partitions ++ tail)
-threshold_fields_plain j [] partitions tail plain = plain
-threshold_fields_plain j (price ∷ prices) [] tail plain = plain
-threshold_fields_plain j (price ∷ prices) (labels ∷ partitions) tail plain = (
-  (record { some = omega arith; all = refl }, (decimal_plain (j + 1), (signed_plain _, labels_plain labels))),
-  threshold_fields_plain (j + 1) prices partitions tail plain,
-)
-
-lines_plain : (answer : Reinforcement) → AllByRecursion ArePlain (answer_lines answer)
-lines_plain (Added a) = (
-  (record { some = omega arith; all = refl }, (record { some = omega arith; all = refl }, tt)),
-  (
-    (record { some = omega arith; all = refl }, (signed_plain _, (signed_plain _, tt))),
-    (
-      (record { some = omega arith; all = refl }, (signed_plain _, tt)),
-      (
-        (record { some = omega arith; all = refl }, numbers_plain a.added),
-        (
-          (record { some = omega arith; all = refl }, numbers_plain a.vector),
-          (
-            (record { some = omega arith; all = refl }, (decimal_plain _, tt)),
-            threshold_fields_plain 0 a.thresholds a.parts (split_fields 0 a.splits ++ end) (split_fields_plain 0 a.splits end end_plain),
-          ),
-        ),
-      ),
-    ),
-  ),
-)
-lines_plain (Blocked labels) = (
-  (record { some = omega arith; all = refl }, (record { some = omega arith; all = refl }, tt)),
-  ((record { some = omega arith; all = refl }, tt), ((record { some = omega arith; all = refl }, labels_plain labels), end_plain)),
-)
-
--- ---- and they can be told apart
-
-abbrev field_at : ℕ → ℕ → Lines → List ℕ
-field_at i j lines = get_or (get_or lines i []) j []
-
-abbrev behind_words : ℕ → ℕ → Lines → List (List ℕ)
-behind_words i k lines = drop k (get_or lines i [])
-
--- the first byte of a line
-abbrev mark : ℕ → Lines → ℕ
-mark i lines = get_or (field_at i 0 lines) 0 0
-
-not_threshold : (rows : List (List ℤ)) → mark 0 (split_fields 0 rows ++ end) ≡ 116 → ⊥
-not_threshold [] e = omega (arith, e)
-not_threshold (row ∷ rows) e = omega (arith, e)
-
-record AreSameThresholds (a b : List ℤ) (ps qs : List (List ℕ)) (x y : Lines) : Type 0 where
+record AreSameThresholds (a b : List ℤ) (ps qs : List (List ℕ)) (x y : List ℕ) : Type 0 where
   prices : a ≡ b
   parts : ps ≡ qs
   behind : x ≡ y
 
-same_thresholds : (n j : ℕ) (a : List ℤ) (ps : List (List ℕ)) (b : List ℤ) (qs : List (List ℕ)) (x y : Lines) → n ≤ 500 → length ps ≡ length a → length qs ≡ length b →
+-- the first byte
+abbrev mark : List ℕ → ℕ
+mark text = get_or text 0 0
+
+same_thresholds : (n j : ℕ) (a : List ℤ) (ps : List (List ℕ)) (b : List ℤ) (qs : List (List ℕ)) (x y : List ℕ) → n ≤ 500 → length ps ≡ length a → length qs ≡ length b →
     AllByRecursion (IsWithinSize (2 ^ 104)) a → AllByRecursion (IsPartition n) ps → AllByRecursion (IsWithinSize (2 ^ 104)) b → AllByRecursion (IsPartition n) qs →
-    (mark 0 x ≡ 116 → ⊥) → (mark 0 y ≡ 116 → ⊥) → threshold_fields j a ps ++ x ≡ threshold_fields j b qs ++ y → AreSameThresholds a b ps qs x y
+    (mark x ≡ 116 → ⊥) → (mark y ≡ 116 → ⊥) → thresholds_text j a ps ++ x ≡ thresholds_text j b qs ++ y → AreSameThresholds a b ps qs x y
 same_thresholds n j [] [] [] [] x y few full full' sa sp sb sq mx my e = record { prices = refl; parts = refl; behind = e }
 same_thresholds n j [] [] [] (q ∷ qs) x y few full full' sa sp sb sq mx my e = absurd (omega (arith, full'))
 same_thresholds n j [] [] (t ∷ b) [] x y few full full' sa sp sb sq mx my e = absurd (omega (arith, full'))
-same_thresholds n j [] [] (t ∷ b) (q ∷ qs) x y few full full' sa sp sb sq mx my e = absurd (mx (ap (mark 0) e))
+same_thresholds n j [] [] (t ∷ b) (q ∷ qs) x y few full full' sa sp sb sq mx my e = absurd (mx (ap mark e))
 same_thresholds n j [] (p ∷ ps) b qs x y few full full' sa sp sb sq mx my e = absurd (omega (arith, full))
 same_thresholds n j (s ∷ a) [] b qs x y few full full' sa sp sb sq mx my e = absurd (omega (arith, full))
-same_thresholds n j (s ∷ a) (p ∷ ps) [] [] x y few full full' sa sp sb sq mx my e = absurd (my (sym (ap (mark 0) e)))
+same_thresholds n j (s ∷ a) (p ∷ ps) [] [] x y few full full' sa sp sb sq mx my e = absurd (my (sym (ap mark e)))
 same_thresholds n j (s ∷ a) (p ∷ ps) [] (q ∷ qs) x y few full full' sa sp sb sq mx my e = absurd (omega (arith, full'))
 same_thresholds n j (s ∷ a) (p ∷ ps) (t ∷ b) [] x y few full full' sa sp sb sq mx my e = absurd (omega (arith, full'))
 same_thresholds n j (s ∷ a) (p ∷ ps) (t ∷ b) (q ∷ qs) x y few full full' sa sp sb sq mx my e =
-    let price = one_number s t (within_digits (2 ^ 104) s (omega arith) sa.0) (within_digits (2 ^ 104) t (omega arith) sb.0) (ap (field_at 0 2) e) in
-    let labels = same_labels p q (all_labels n p few sp.0) (all_labels n q few sq.0) (ap (behind_words 0 3) e) in
-    let later = same_thresholds n (j + 1) a ps b qs x y few (omega (arith, full)) (omega (arith, full')) sa.1 sp.1 sb.1 sq.1 mx my (ap (drop 1) e) in
+    let first = threshold_one n (j + 1) few (s, p) (t, q) (thresholds_text (j + 1) a ps ++ x) (thresholds_text (j + 1) b qs ++ y) (sa.0, sp.0) (sb.0, sq.0)
+    (sym (append_assoc (threshold_line (j + 1) s p) (thresholds_text (j + 1) a ps) x) ∙ e ∙ append_assoc (threshold_line (j + 1) t q) (thresholds_text (j + 1) b qs) y) in
+    let later = same_thresholds n (j + 1) a ps b qs x y few (omega (arith, full)) (omega (arith, full')) sa.1 sp.1 sb.1 sq.1 mx my first.left in
     record {
-      prices = ap (λ (z : ℤ). z ∷ a) price ∙ ap (λ (zs : List ℤ). t ∷ zs) later.prices;
-      parts = ap (λ (z : List ℕ). z ∷ ps) labels ∙ ap (λ (zs : List (List ℕ)). q ∷ zs) later.parts;
+      prices = ap (λ (z : ℤ × List ℕ). z.0 ∷ a) first.value ∙ ap (λ (zs : List ℤ). t ∷ zs) later.prices;
+      parts = ap (λ (z : ℤ × List ℕ). z.1 ∷ ps) first.value ∙ ap (λ (zs : List (List ℕ)). q ∷ zs) later.parts;
       behind = later.behind;
     }
+
+-- ---- whole texts
+
+abbrev begin : List ℕ
+begin = line (codes "o" ∷ codes "reinforce" ∷ [])
+
+abbrev end : List ℕ
+end = line (codes "end" ∷ [])
+
+abbrev Front : Type 0
+Front = Fraction × (ℤ × (List ℤ × List ℤ))
+
+-- the level, the cost, what is added and the vector
+abbrev front : ℕ → Spelling Front
+front width =
+    let c : Spelling ℤ = record { text = λ x. row_line (codes "c") [] (x ∷ []); Is = IsWithinSize (2 ^ 127); one = number_row_one (codes "c") [] (record { some = omega arith; all = refl }) } in
+    then (fraction_row (codes "d") (record { some = omega arith; all = refl })) (then c
+    (then (flow_row (codes "x") (record { some = omega arith; all = refl }) width) (flow_row (codes "y") (record { some = omega arith; all = refl }) width)))
+
+abbrev front_fields : AddedAnswer → Front
+front_fields a = (a.level, (a.cost, (a.added, a.vector)))
+
+-- the splits, and what stands behind them
+abbrev splits_end : AddedAnswer → List ℕ
+splits_end a = table_text (codes "r") 1 a.splits ++ end
+
+-- the lines after the vector
+abbrev back : AddedAnswer → List ℕ
+back a = row_line (codes "k") (length a.thresholds ∷ []) [] ++ (thresholds_text 0 a.thresholds a.parts ++ splits_end a)
+
+-- the lines after the first
+abbrev lines_of : Reinforcement → List ℕ
+lines_of (Added a) =
+    (fraction_line (codes "d") [] a.level [] ++ (row_line (codes "c") [] (a.cost ∷ []) ++ (row_line (codes "x") [] a.added ++ row_line (codes "y") [] a.vector))) ++ back a
+lines_of (Blocked labels) = line (codes "none" ∷ []) ++ (label_line (codes "s") [] labels ++ end)
+
+nine : (a b c d e f g h i : List ℕ) → (a ++ b ++ c ++ d ++ e) ++ (f ++ g ++ h ++ i) ≡ a ++ ((b ++ (c ++ (d ++ e))) ++ (f ++ (g ++ (h ++ i))))
+nine a b c d e f g h i = simp append_assoc
+
+four : (a b c d : List ℕ) → a ++ b ++ c ++ d ≡ a ++ (b ++ (c ++ d))
+four a b c d = simp append_assoc
+
+text_is : (answer : Reinforcement) → reinforcement_text answer ≡ begin ++ lines_of answer
+unfolding added_text blocked_text
+text_is (Added a) =
+    nine begin (fraction_line (codes "d") [] a.level []) (row_line (codes "c") [] (a.cost ∷ [])) (row_line (codes "x") [] a.added) (row_line (codes "y") [] a.vector)
+    (row_line (codes "k") (length a.thresholds ∷ []) []) (thresholds_text 0 a.thresholds a.parts) (table_text (codes "r") 1 a.splits) end
+text_is (Blocked labels) = four begin (line (codes "none" ∷ [])) (label_line (codes "s") [] labels) end
+
+not_threshold : (a : AddedAnswer) → mark (splits_end a) ≡ 116 → ⊥
+not_threshold a e = by a.splits e
+  where
+    by : (rows : List (List ℤ)) → mark (table_text (codes "r") 1 rows ++ end) ≡ 116 → ⊥
+    by [] f = omega (arith, f)
+    by (row ∷ rows) f = omega (arith, f)
 
 abbrev added_of : Fraction → ℤ → List ℤ → List ℤ → List ℤ → List (List ℕ) → List (List ℤ) → AddedAnswer
 added_of level cost added vector thresholds parts splits =
     record { level = level; cost = cost; added = added; vector = vector; thresholds = thresholds; parts = parts; splits = splits }
 
-same_fields : (l l' : Fraction) (c c' : ℤ) (x x' y y' t t' : List ℤ) (p p' : List (List ℕ)) (r r' : List (List ℤ)) → l ≡ l' → c ≡ c' → x ≡ x' → y ≡ y' → t ≡ t' → p ≡ p' → r ≡ r' →
-    added_of l c x y t p r ≡ added_of l' c' x' y' t' p' r'
-same_fields l l' c c' x x' y y' t t' p p' r r' el ec ex ey et ep er = rw (el, ec, ex, ey, et, ep, er) refl
+abbrev answer_of : Front → List ℤ → List (List ℕ) → List (List ℤ) → AddedAnswer
+answer_of f thresholds parts splits = added_of f.0 f.1.0 f.1.1.0 f.1.1.1 thresholds parts splits
 
-cost_digits : (x : ℤ) → IsWithinSize (2 ^ 127) x → nat_abs x < 10 ^ 64
-cost_digits x size =
-    let low = size.low in
-    let high = size.high in
-    omega (arith, ints, low, high)
+same_answer : (f f' : Front) (t t' : List ℤ) (p p' : List (List ℕ)) (r r' : List (List ℤ)) → f ≡ f' → t ≡ t' → p ≡ p' → r ≡ r' → answer_of f t p r ≡ answer_of f' t' p' r'
+same_answer f f' t t' p p' r r' ef et ep er = rw (ef, et, ep, er) refl
 
-one_added : (g : WeightedGraph) (a b : AddedAnswer) → IsWithinLimits g → IsSizedAdded g a → IsSizedAdded g b → answer_lines (Added a) ≡ answer_lines (Added b) → a ≡ b
-one_added g a b limits sa sb lines =
-    let level = same_fraction a.level b.level sa.level sb.level (ap (field_at 1 1) lines) (ap (field_at 1 2) lines) in
-    let cost = one_number a.cost b.cost (cost_digits a.cost sa.cost) (cost_digits b.cost sb.cost) (ap (field_at 2 1) lines) in
-    let added = same_numbers a.added b.added (all_short g a.added sa.added) (all_short g b.added sb.added) (ap (behind_words 3 1) lines) in
-    let vector = same_numbers a.vector b.vector (all_short g a.vector sa.vector) (all_short g b.vector sb.vector) (ap (behind_words 4 1) lines) in
+one_added : (g : WeightedGraph) (a b : AddedAnswer) → IsWithinLimits g → IsSizedAdded g a → IsSizedAdded g b → lines_of (Added a) ≡ lines_of (Added b) → a ≡ b
+one_added g a b limits sa sb e =
+    let width = length g.ends in
+    let fits : (c : AddedAnswer) → IsSizedAdded g c → (front width).Is (front_fields c) = λ c s. (s.level, (s.cost, (row_of_sized g c.added width refl s.added, row_of_sized g c.vector width refl s.vector))) in
+    let first = (front width).one (front_fields a) (front_fields b) (back a) (back b) (fits a sa) (fits b sb) e in
+    let counted = count_left (codes "k") (length a.thresholds) (length b.thresholds) (thresholds_text 0 a.thresholds a.parts ++ splits_end a) (thresholds_text 0 b.thresholds b.parts ++ splits_end b)
+    (record { some = omega arith; all = refl }) first.left in
     let sized = IsWithinSize (2 ^ 104) in
-    let both = same_thresholds g.nodes 0 a.thresholds a.parts b.thresholds b.parts (split_fields 0 a.splits ++ end) (split_fields 0 b.splits ++ end) limits.nodes sa.count sb.count
+    let both = same_thresholds g.nodes 0 a.thresholds a.parts b.thresholds b.parts (splits_end a) (splits_end b) limits.nodes sa.count sb.count
     (recursion_from_All sized a.thresholds sa.thresholds) (recursion_from_All (IsPartition g.nodes) a.parts sa.parts)
     (recursion_from_All sized b.thresholds sb.thresholds) (recursion_from_All (IsPartition g.nodes) b.parts sb.parts)
-    (not_threshold a.splits) (not_threshold b.splits) (ap (drop 6) lines) in
-    let splits = same_splits g 0 a.splits b.splits (recursion_from_All (IsSized (digraph_of g)) a.splits sa.splits) (recursion_from_All (IsSized (digraph_of g)) b.splits sb.splits) both.behind in
-    same_fields a.level b.level a.cost b.cost a.added b.added a.vector b.vector a.thresholds b.thresholds a.parts b.parts a.splits b.splits
-    level cost added vector both.prices both.parts splits
+    (not_threshold a) (not_threshold b) counted in
+    let splits = flow_rows_one (codes "r") 1 width g.nodes (record { some = omega arith; all = refl }) a.splits b.splits end end
+    (record { full = sa.rows; each = rows_of_sized g a.splits width refl sa.splits }) (record { full = sb.rows; each = rows_of_sized g b.splits width refl sb.splits }) both.behind in
+    same_answer (front_fields a) (front_fields b) a.thresholds b.thresholds a.parts b.parts a.splits b.splits first.value both.prices both.parts splits.value
 
 -- the second line is that of a level, or `none`
-same_by : (g : WeightedGraph) (a b : Reinforcement) → IsWithinLimits g → IsReinforcementShape g a → IsReinforcementShape g b → answer_lines a ≡ answer_lines b → a ≡ b
+same_by : (g : WeightedGraph) (a b : Reinforcement) → IsWithinLimits g → IsReinforcementShape g a → IsReinforcementShape g b → lines_of a ≡ lines_of b → a ≡ b
 same_by g (Added a) (Added b) limits sa sb lines = ap Added (one_added g a b limits sa sb lines)
-same_by g (Added a) (Blocked labels) limits sa sb lines = absurd (let byte = ap (mark 1) lines in omega (arith, byte))
-same_by g (Blocked labels) (Added b) limits sa sb lines = absurd (let byte = ap (mark 1) lines in omega (arith, byte))
+same_by g (Added a) (Blocked labels) limits sa sb lines = absurd (let byte = ap mark lines in omega (arith, byte))
+same_by g (Blocked labels) (Added b) limits sa sb lines = absurd (let byte = ap mark lines in omega (arith, byte))
 same_by g (Blocked labels) (Blocked labels') limits sa sb lines =
-    ap Blocked (same_labels labels labels' (all_labels g.nodes labels limits.nodes sa) (all_labels g.nodes labels' limits.nodes sb) (ap (behind_words 2 1) lines))
+    let behind = append_cancel_left (line (codes "none" ∷ [])) (label_line (codes "s") [] labels ++ end) (label_line (codes "s") [] labels' ++ end) lines in
+    ap Blocked (part_one g.nodes limits.nodes labels labels' end end sa sb behind).value
 
 pub one_answer : (g : WeightedGraph) (a b : Reinforcement) → IsWithinLimits g → IsReinforcementShape g a → IsReinforcementShape g b →
     reinforcement_text a ≡ reinforcement_text b → a ≡ b
-one_answer g a b limits sa sb e =
-    same_by g a b limits sa sb (same_lines (answer_lines a) (answer_lines b) (lines_plain a) (lines_plain b) (sym (text_is a) ∙ e ∙ text_is b))
+one_answer g a b limits sa sb e = same_by g a b limits sa sb (append_cancel_left begin (lines_of a) (lines_of b) (sym (text_is a) ∙ e ∙ text_is b))

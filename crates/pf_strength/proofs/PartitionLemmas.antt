@@ -2,36 +2,15 @@
 use Rattle.std.proofs.Common.{◌≡◌, ℕ, ◌<◌, ◌≤◌, List, [], ◌∷◌, ◌++◌, length, map, sym, ap, subst, ◌∙◌, append_assoc, arith}
 use Rattle.std.specs.Prelude.{codes}
 use Rattle.std.specs.Fmt.{decimal}
-use Rattle.std.proofs.lemmas.List.{length-append, length-map, get_or_default}
+use Rattle.std.proofs.lemmas.List.{length-append, length-map}
 use Rattle.pf_text.specs.Spelling.{spaced, head_text, row_line, label_line}
 use Rattle.pf_text.proofs.SpellingLemmas.{line_then}
-use Rattle.pf_lines.specs.Taking.{AreLabels}
-use Rattle.pf_graph.specs.Labels.{label, parts, IsPartition, IsPartitionOf}
-use Rattle.pf_graph.proofs.Counting.{label_top, parts_most, parts_some}
-use Rattle.pf_graph.proofs.SamePartition.{same_partition, parts_greatest}
+use Rattle.pf_graph.specs.Labels.{parts, IsPartition, IsPartitionOf}
+use Rattle.pf_graph.proofs.Counting.{parts_most, parts_some}
+use Rattle.pf_graph.proofs.SamePartition.{same_partition}
 use Rattle.pf_strength.specs.Text.{partition_text}
 
 -- ---- the label rule
-
--- no label is greater than the number of vertices
-pub label_high : (n : ℕ) (labels : List ℕ) (v : ℕ) → IsPartition n labels → label labels v ≤ n
-label_high n labels v p =
-    let top = label_top labels v in
-    let same = parts_greatest n labels p in
-    let most = parts_most labels in
-    let full = p.full in
-    omega (arith, top, same, most, full)
-
-pub labels_of_partition : (n : ℕ) (labels : List ℕ) → IsPartition n labels → AreLabels n n labels
-labels_of_partition n labels p = record {
-  full = p.full;
-  each = λ i d low.
-      let full = p.full in
-      let e = get_or_default labels i d 0 low in
-      let least = p.low i (omega (arith, low, full)) in
-      let most = label_high n labels i p in
-      (omega (arith, e, least), omega (arith, e, most));
-}
 
 -- labels that are by the rule are the ones that number their groups
 pub same_list : (groups labels : List ℕ) → IsPartition (length groups) groups → IsPartitionOf groups labels → labels ≡ groups

@@ -1,18 +1,23 @@
--- The lines of a strength's text, one after the other.
-use Rattle.std.proofs.Common.{◌≡◌, ℕ, ◌<◌, ◌^◌, List, [], ◌∷◌, ◌++◌, length, get_or, refl, append_assoc, arith, ap, sym, subst, ◌∙◌}
+-- The lines of a strength's text, one after the other, and their shapes.
+use Rattle.std.proofs.Common.{◌≡◌, ℕ, ◌<◌, ◌^◌, List, [], ◌∷◌, ◌++◌, length, get_or, refl, append_assoc, arith, sym, subst, ◌∙◌}
 use Rattle.std.specs.Prelude.{ℤ, pos, codes, All}
 use Rattle.std.proofs.lemmas.List.{get_or_default}
 use Rattle.pf_model.specs.Fraction.{Fraction}
-use Rattle.pf_model.specs.Answer.{IsWithinSize}
+use Rattle.pf_model.specs.Answer.{IsWithinSize, IsFractionShape}
 use Rattle.pf_frame.specs.Lending.{row_at}
 use Rattle.pf_frame.specs.Numbers.{IsSized}
-use Rattle.pf_text.specs.Spelling.{line, row_line, fraction_line, label_line}
+use Rattle.pf_text.specs.Spelling.{line, row_line, fraction_line, label_line, table_text}
 use Rattle.pf_lines.specs.Taking.{IsFlowRow}
+use Rattle.pf_format.specs.Format.{HasOneReading}
+use Rattle.pf_format.specs.Shapes.{IsWord, AreFlowRows}
+use Rattle.pf_format.proofs.Formats.{Spelling, then, marked, ended, fraction_row, flow_row, flow_rows, made_one}
 use Rattle.pf_graph.specs.WeightedGraph.{WeightedGraph, digraph_of}
-use Rattle.pf_graph.specs.Labels.{parts}
-use Rattle.pf_strength.specs.Strength.{StrengthAnswer, FitsGraph}
-use Rattle.pf_strength.specs.Text.{partition_text, splits_text, strength_text}
-use Rattle.pf_strength.proofs.Whole.{answer_of}
+use Rattle.pf_graph.specs.Labels.{parts, IsPartition}
+use Rattle.pf_graph.specs.Limits.{IsWithinLimits}
+use Rattle.pf_strength.specs.Strength.{StrengthAnswer, FitsGraph, IsStrengthShape, of_fields}
+use Rattle.pf_strength.specs.Text.{partition_text, strength_text}
+use Rattle.pf_strength.specs.TextLaws.{partition_one}
+use Rattle.pf_strength.proofs.PartitionLemmas.{same_count}
 
 -- ---- numbers on edges
 
@@ -45,46 +50,6 @@ rows_of_sized g rows width e each = λ r d low. row_of_sized g (get_or rows r d)
 pub sized_of_rows : (g : WeightedGraph) (rows : List (List ℤ)) (width : ℕ) → width ≡ length g.ends → All (IsFlowRow width) rows → All (IsSized (digraph_of g)) rows
 sized_of_rows g rows width e each = λ r d low. sized_of_row g (get_or rows r d) width e (each r d low)
 
--- ---- the whole text
-
--- what stands after the first line, after the level, after the partition, after the vector, and after the splits
-abbrev pub last_lines : List ℕ → List ℕ
-last_lines rest = line (codes "end" ∷ []) ++ rest
-
-abbrev pub split_lines : List (List ℤ) → List ℕ → List ℕ
-split_lines splits rest = splits_text 0 splits ++ last_lines rest
-
-abbrev pub vector_lines : List ℤ → List (List ℤ) → List ℕ → List ℕ
-vector_lines vector splits rest = row_line (codes "y") [] vector ++ split_lines splits rest
-
-abbrev pub partition_lines : List ℕ → List ℤ → List (List ℤ) → List ℕ → List ℕ
-partition_lines labels vector splits rest = partition_text labels ++ vector_lines vector splits rest
-
-abbrev pub level_lines : Fraction → List ℕ → List ℤ → List (List ℤ) → List ℕ → List ℕ
-level_lines level labels vector splits rest = fraction_line (codes "d") [] level [] ++ partition_lines labels vector splits rest
-
-pub seven : (a b c d e f g rest : List ℕ) → (a ++ b ++ c ++ d ++ e ++ f ++ g) ++ rest ≡ a ++ (b ++ ((c ++ d) ++ (e ++ (f ++ (g ++ rest)))))
-seven a b c d e f g rest = simp append_assoc
-
-pub all_lines : (answer : StrengthAnswer) (rest : List ℕ) →
-    strength_text answer ++ rest ≡ line (codes "o" ∷ codes "strength" ∷ []) ++ level_lines answer.level answer.parts answer.vector answer.splits rest
-unfolding strength_text
-all_lines answer rest =
-    seven (line (codes "o" ∷ codes "strength" ∷ [])) (fraction_line (codes "d") [] answer.level []) (row_line (codes "k") (parts answer.parts ∷ []) [])
-    (label_line (codes "s") [] answer.parts) (row_line (codes "y") [] answer.vector) (splits_text 0 answer.splits) (line (codes "end" ∷ [])) rest
-
--- what was taken piece by piece
-pub text_taken : (old a b c d e new : List ℕ) (level : Fraction) (labels : List ℕ) (vector : List ℤ) (splits : List (List ℤ)) →
-    old ≡ line (codes "o" ∷ codes "strength" ∷ []) ++ a → a ≡ fraction_line (codes "d") [] level [] ++ b → b ≡ partition_text labels ++ c →
-    c ≡ row_line (codes "y") [] vector ++ d → d ≡ splits_text 0 splits ++ e → e ≡ line (codes "end" ∷ []) ++ new →
-    old ≡ strength_text (answer_of level labels vector splits) ++ new
-text_taken old a b c d e new level labels vector splits first second third fourth fifth sixth =
-    let h : d ≡ split_lines splits new = fifth ∙ ap (λ (t : List ℕ). splits_text 0 splits ++ t) sixth in
-    let i : c ≡ vector_lines vector splits new = fourth ∙ ap (λ (t : List ℕ). row_line (codes "y") [] vector ++ t) h in
-    let j : b ≡ partition_lines labels vector splits new = third ∙ ap (λ (t : List ℕ). partition_text labels ++ t) i in
-    let k : a ≡ level_lines level labels vector splits new = second ∙ ap (λ (t : List ℕ). fraction_line (codes "d") [] level [] ++ t) j in
-    first ∙ ap (λ (t : List ℕ). line (codes "o" ∷ codes "strength" ∷ []) ++ t) k ∙ sym (all_lines (answer_of level labels vector splits) new)
-
 -- ---- shapes
 
 -- the rows, for each root and for each row
@@ -97,6 +62,64 @@ pub each_row : (g : WeightedGraph) (splits : List (List ℤ)) (count : ℕ) → 
     IsSized (digraph_of g) (row_at splits r)
 each_row g splits count full all r low = all r [] (omega (arith, low, full))
 
-pub same_answer : (x : Fraction) (labels : List ℕ) (vector : List ℤ) (splits : List (List ℤ)) (answer : StrengthAnswer) → x ≡ answer.level → labels ≡ answer.parts →
-    vector ≡ answer.vector → splits ≡ answer.splits → answer_of x labels vector splits ≡ answer
-same_answer x labels vector splits answer a b c d = rw (a, b, c, d) refl
+-- ---- the whole text
+
+abbrev pub Fields : Type 0
+Fields = Fraction × (List ℕ × (List ℤ × List (List ℤ)))
+
+abbrev pub fields_of : StrengthAnswer → Fields
+fields_of answer = (answer.level, (answer.parts, (answer.vector, answer.splits)))
+
+-- what the format spells, and what it asks of the fields
+abbrev pub spelled : Fields → List ℕ
+spelled f =
+    line (codes "o" ∷ codes "strength" ∷ []) ++ (fraction_line (codes "d") [] f.0 [] ++ (partition_text f.1.0 ++ (row_line (codes "y") [] f.1.1.0
+    ++ (table_text (codes "r") 1 f.1.1.1 ++ line (codes "end" ∷ [])))))
+
+abbrev pub Fits : (nodes edges : ℕ) → Fields → Type 0
+Fits nodes edges f = IsFractionShape f.0 × (IsPartition nodes f.1.0 × (IsFlowRow edges f.1.1.0 × AreFlowRows nodes edges f.1.1.1))
+
+seven : (a b c d e f g : List ℕ) → a ++ (b ++ ((c ++ d) ++ (e ++ (f ++ g)))) ≡ a ++ b ++ c ++ d ++ e ++ f ++ g
+seven a b c d e f g = simp append_assoc
+
+pub spelled_is : (f : Fields) → spelled f ≡ strength_text (of_fields f)
+unfolding strength_text
+spelled_is f =
+    seven (line (codes "o" ∷ codes "strength" ∷ [])) (fraction_line (codes "d") [] f.0 []) (row_line (codes "k") (parts f.1.0 ∷ []) []) (label_line (codes "s") [] f.1.0)
+    (row_line (codes "y") [] f.1.1.0) (table_text (codes "r") 1 f.1.1.1) (line (codes "end" ∷ []))
+
+pub shape_of : (g : WeightedGraph) (nodes edges : ℕ) (f : Fields) → nodes ≡ g.nodes → edges ≡ length g.ends → Fits nodes edges f → IsStrengthShape g (of_fields f)
+shape_of g nodes edges f n m fits = record {
+  level = fits.0;
+  fits = record {
+    partition = same_count g.nodes nodes f.1.0 n fits.1.0;
+    vector = sized_of_row g f.1.1.0 edges m fits.1.1.0;
+    rows = fits.1.1.1.full ∙ n;
+    splits = each_row g f.1.1.1 g.nodes (fits.1.1.1.full ∙ n) (sized_of_rows g f.1.1.1 edges m fits.1.1.1.each);
+  };
+}
+
+pub fits_of : (g : WeightedGraph) (nodes edges : ℕ) (f : Fields) → nodes ≡ g.nodes → edges ≡ length g.ends → IsStrengthShape g (of_fields f) → Fits nodes edges f
+fits_of g nodes edges f n m s = (
+  s.level,
+  (
+    same_count nodes g.nodes f.1.0 (sym n) s.fits.partition,
+    (
+      row_of_sized g f.1.1.0 edges m s.fits.vector,
+      record { full = s.fits.rows ∙ sym n; each = rows_of_sized g f.1.1.1 edges m (all_rows g (of_fields f) s.fits) },
+    ),
+  ),
+)
+
+-- in front of a text stands at most one answer
+pub one_text : (g : WeightedGraph) → IsWithinLimits g → HasOneReading strength_text (IsStrengthShape g)
+one_text g limits =
+    let few = limits.nodes in
+    let d : IsWord (codes "d") = record { some = omega arith; all = refl } in
+    let y : IsWord (codes "y") = record { some = omega arith; all = refl } in
+    let r : IsWord (codes "r") = record { some = omega arith; all = refl } in
+    let partition : Spelling (List ℕ) = record { text = partition_text; Is = IsPartition g.nodes; one = partition_one g.nodes (omega (arith, few)) } in
+    let lines = marked (line (codes "o" ∷ codes "strength" ∷ [])) (then (fraction_row (codes "d") d) (then partition (then (flow_row (codes "y") y (length g.ends))
+    (ended (flow_rows (codes "r") r 1 g.nodes (length g.ends)) (line (codes "end" ∷ [])))))) in
+    made_one strength_text (IsStrengthShape g) spelled (Fits g.nodes (length g.ends)) of_fields fields_of
+    (record { same = spelled_is; shape = λ f. shape_of g g.nodes (length g.ends) f refl refl; back = λ f. fits_of g g.nodes (length g.ends) f refl refl; there = λ a. refl }) lines.one

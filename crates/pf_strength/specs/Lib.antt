@@ -5,3 +5,4 @@ pub mod Newton
 pub mod Testing
 pub mod StrengthLaws
 pub mod Worked
+pub mod TextLaws

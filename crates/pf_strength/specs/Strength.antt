@@ -16,6 +16,10 @@ pub record StrengthAnswer : Type 0 where
   pub vector : List ℤ
   pub splits : List (List ℤ)
 
+-- the answer of these fields, as its text has them one after the other
+abbrev pub of_fields : Fraction × (List ℕ × (List ℤ × List (List ℤ))) → StrengthAnswer
+of_fields fields = record { level = fields.0; parts = fields.1.0; vector = fields.1.1.0; splits = fields.1.1.1 }
+
 -- its lists fit the graph: one label per vertex, one number per edge, and one row of such numbers per vertex, each of a size below 2 ^ 104
 pub record FitsGraph (g : WeightedGraph) (a : StrengthAnswer) : Type 0 where
   pub partition : IsPartition g.nodes a.parts

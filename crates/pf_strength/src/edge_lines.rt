@@ -1,14 +1,13 @@
-// Lines of numbers on edges, read back: the vector, and the splits.
-ghost use Rattle.std.specs.Prelude.{◌≡◌, ◌++◌, ℕ, ℤ, List, length, All, IfOk};
+// Lines of numbers on edges, read back.
+ghost use Rattle.std.specs.Prelude.{◌≡◌, ◌++◌, ℕ, ℤ, List, IfOk};
 ghost use Rattle.pf_frame.specs.Numbers.{IsSized};
 ghost use Rattle.pf_text.specs.Spelling.{row_line};
 ghost use Rattle.pf_lines.specs.Taking.{Takes};
 ghost use Rattle.pf_graph.specs.WeightedGraph.{digraph_of};
-ghost use Rattle.pf_strength.specs.Text.{splits_text};
 
-use pf_frame::{FlowTable, Numbers};
+use pf_frame::Numbers;
 use pf_graph::Graph;
-use pf_lines::{AnswerBad, Exact, take_flow_row, take_flow_rows};
+use pf_lines::{AnswerBad, Exact, take_flow_row};
 use std::alloc::Global;
 
 /// A line of one number per edge, each of a size below `2^104`.
@@ -27,22 +26,4 @@ pub fn take_edge_row(
     let width = graph.edges() as usize;
     let numbers = take_flow_row(alloc, word, indices, width, text)?;
     Ok(numbers)
-}
-
-/// The lines of so many splits, from that of the first root on.
-pub(crate) fn take_splits(
-    alloc: Global,
-    graph: &Graph,
-    count: usize,
-    text: &mut Exact<'_>,
-) -> Result<FlowTable, AnswerBad>
-    ensures taken { IfOk result (λ rows. text.old ≡ splits_text 0 rows ++ text.new) }
-    ensures count { IfOk result (λ rows. length rows ≡ count) }
-    ensures shape { IfOk result (All (IsSized (digraph_of graph.now))) }
-    ensures found { (rows : List (List ℤ)) (rest : List ℕ) → length rows ≡ count → All (IsSized (digraph_of graph.now)) rows
-        → text.old ≡ splits_text 0 rows ++ rest → Takes rows rest result text.new }
-{
-    let width = graph.edges() as usize;
-    let splits = take_flow_rows(alloc, b"r", 1, width, count, text)?;
-    Ok(splits)
 }

@@ -15,6 +15,6 @@ mod text;
 
 pub use check::{check_strength, is_certified_strength_text};
 pub use edge_lines::take_edge_row;
-pub use partition_lines::take_partition;
+pub use partition_lines::{PartitionLines, take_partition};
 pub use strength::Strength;
 pub use text::{print_splits, read_strength, write_strength};

@@ -4,8 +4,11 @@ ghost use Rattle.pf_text.specs.Spelling.{label_line};
 ghost use Rattle.pf_lines.specs.Taking.{IsExcused, Takes};
 ghost use Rattle.pf_graph.specs.Labels.{parts, IsPartition};
 ghost use Rattle.pf_strength.specs.Text.{partition_text};
+ghost use Rattle.pf_strength.specs.TextLaws.{partition_one};
 
+use pf_format::Format;
 use pf_graph::Partition;
+use pf_io::{Failed, Printer, Sink, print_labels, print_row};
 use pf_lines::{AnswerBad, Exact, take_count, take_labels};
 use std::alloc::Global;
 
@@ -58,8 +61,8 @@ pub fn take_partition(
     Ok(partition)
 }
 
-/// The lines `k PARTS` and `s L1 .. LN` of a partition.
-pub(crate) fn take_counted_partition(
+// The lines `k PARTS` and `s L1 .. LN` of a partition.
+fn take_counted_partition(
     alloc: Global,
     vertices: u32,
     text: &mut Exact<'_>,
@@ -77,4 +80,31 @@ pub(crate) fn take_counted_partition(
         return Err(AnswerBad::NotText);
     }
     Ok(partition)
+}
+
+/// The format of the lines `k PARTS` and `s L1 .. LN` of a partition.
+#[derive(Clone, Copy)]
+pub struct PartitionLines {
+    pub vertices: u32,
+    ghost some: { 0 < vertices },
+    ghost few: { vertices ≤ 8192 },
+}
+
+impl Format for PartitionLines {
+    type Value = Partition;
+
+    ghost text = { λ f. partition_text };
+
+    ghost shape = { λ f. IsPartition f.vertices };
+
+    ghost one = { λ f. partition_one f.vertices f.few };
+
+    fn print<K: Sink>(&self, out: &mut Printer<'_, K>, value: &Partition) -> Result<(), Failed> {
+        print_row(out, b"k", &[value.parts() as usize], &[])?;
+        print_labels(out, b"s", &[], value.labels())
+    }
+
+    fn take(&self, alloc: Global, source: &mut Exact<'_>) -> Result<Partition, AnswerBad> {
+        take_counted_partition(alloc, self.vertices, source)
+    }
 }

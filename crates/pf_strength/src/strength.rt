@@ -2,7 +2,7 @@
 ghost use Rattle.std.specs.Prelude.{◌≡◌, ◌≤◌, IfOk};
 ghost use Rattle.pf_graph.specs.Best.{IsStrength};
 ghost use Rattle.pf_strength.specs.Newton.{IsLast};
-ghost use Rattle.pf_strength.specs.Strength.{IsStrengthShape, CertifiesStrength};
+ghost use Rattle.pf_strength.specs.Strength.{IsStrengthShape, CertifiesStrength, of_fields};
 
 use crate::newton::find;
 use pf_forest::Forest;
@@ -16,18 +16,15 @@ use std::marker::Model;
 /// edges. Vector and splits are in units of `1/Q`; a split tells what the first end of each edge gets of its number.
 #[derive(Drop)]
 pub struct Strength {
-    level: Rat,
-    parts: Partition,
-    vector: Numbers,
-    splits: FlowTable,
+    fields: (Rat, (Partition, (Numbers, FlowTable))),
 }
 
 impl Model for Strength {
-    ghost use Rattle.pf_strength.specs.Strength.{StrengthAnswer};
+    ghost use Rattle.pf_strength.specs.Strength.{StrengthAnswer, of_fields};
 
     ghost Value = { StrengthAnswer };
 
-    ghost view = { λ s. record { level = s.level; parts = s.parts; vector = s.vector; splits = s.splits } };
+    ghost view = { λ s. of_fields s.fields };
 }
 
 // The answer of the last level, partition and forest.
@@ -56,11 +53,22 @@ impl Strength {
         ensures { result ≡ record { level = level; parts = parts; vector = vector; splits = splits } }
     {
         Strength {
-            level,
-            parts,
-            vector,
-            splits,
+            fields: (level, (parts, (vector, splits))),
         }
+    }
+
+    // The answer of these fields, as its format reads them.
+    pub(crate) fn of_fields(fields: (Rat, (Partition, (Numbers, FlowTable)))) -> Strength
+        ensures { result ≡ of_fields fields }
+    {
+        Strength { fields }
+    }
+
+    // Its fields, as its format prints them.
+    pub(crate) fn fields(&self) -> &(Rat, (Partition, (Numbers, FlowTable)))
+        ensures { self.now ≡ of_fields result.now }
+    {
+        &self.fields
     }
 
     /// The strength of a graph: the least ratio of crossing weight to the number of parts less one over all partitions into at
@@ -83,27 +91,27 @@ impl Strength {
     pub fn level(&self) -> &Rat
         ensures { result.now ≡ self.now.level }
     {
-        &self.level
+        &self.fields.0
     }
 
     /// The partition; its labels are indexed by vertices.
     pub fn parts(&self) -> &Partition
         ensures { result.now ≡ self.now.parts }
     {
-        &self.parts
+        &self.fields.1.0
     }
 
     /// The vector, indexed by edges, in units of `1/Q` of the level.
     pub fn vector(&self) -> &Numbers
         ensures { result.now ≡ self.now.vector }
     {
-        &self.vector
+        &self.fields.1.1.0
     }
 
     /// The splits, indexed by roots and then by edges, in units of `1/Q` of the level.
     pub fn splits(&self) -> &FlowTable
         ensures { result.now ≡ self.now.splits }
     {
-        &self.splits
+        &self.fields.1.1.1
     }
 }

@@ -15,4 +15,4 @@ verdict g text answer (Err e) limits shape text_is exact = tt
 
 pub returns : goal.returns
 returns c =
-    verdict c.args.graph.now c.args.text.now c.in-Ok.answer c.is_certified.result c.vertices.ensures.limits c.in-Ok.ensures.shape c.in-Ok.ensures.text c.is_certified.ensures
+    verdict c.args.graph.now c.args.text.now c.in-Ok.answer c.is_certified.result c.vertices.ensures.limits c.in-Ok.ensures.shape c.in-Ok.ensures.spelled c.is_certified.ensures

@@ -1,15 +1,18 @@
-use Rattle.std.proofs.Common.{[]}
-use Rattle.pf_lines.proofs.WholeTexts.{alone, whole, not_refused}
+use Rattle.std.proofs.Common.{refl}
+use Rattle.pf_format.proofs.Formats.{made_whole, made_refused}
+use Rattle.pf_strength.proofs.TextLemmas.{fields_of}
 use Rattle.pf_strength.proofs.text.read_strength.Goals as goal
 
-pub returns-in_err-answer-clause-refused : goal.returns-in_err-answer-clause-refused
-returns-in_err-answer-clause-refused c = λ e answer shape there.
-    not_refused c.in_err-answer.field-0.0 c.from_residual.result c.from_residual.ensures.1 e (c.in_err-answer.ensures.found answer [] shape (alone c.new-rest.ensures there))
+pub returns-in_err-fields : goal.returns-in_err-fields
+returns-in_err-fields c =
+    let f = c.strength_format-format.ensures in
+    let g = c.args.graph.now in
+    made_refused {parts = fields_of} c.from_residual.result c.in_err-fields.ensures c.from_residual.ensures.1
+    (record { same = f.text; shape = λ y. (f.shape g y c.vertices.ensures.value c.edges.ensures).0; back = λ y. (f.shape g y c.vertices.ensures.value c.edges.ensures).1; there = λ a. refl })
 
-pub returns-in_err-take_end-clause-refused : goal.returns-in_err-take_end-clause-refused
-returns-in_err-take_end-clause-refused c = λ e answer shape there.
-    let found = c.in_ok-answer.ensures.found answer [] shape (alone c.new-rest.ensures there) in
-    not_refused c.in_err-take_end.field-0.0 c.from_residual-in_err-take_end.result c.from_residual-in_err-take_end.ensures.1 e (c.in_err-take_end.ensures.found found.1)
-
-pub returns-clause-text : goal.returns-clause-text
-returns-clause-text c = whole c.new-rest.ensures c.in_ok-answer.ensures.taken c.in_ok-take_end.ensures.taken
+pub returns : goal.returns
+returns c =
+    let f = c.strength_format-format.ensures in
+    let g = c.args.graph.now in
+    made_whole {parts = fields_of} c.in_ok-fields.ensures c.of_fields.ensures
+    (record { same = f.text; shape = λ y. (f.shape g y c.vertices.ensures.value c.edges.ensures).0; back = λ y. (f.shape g y c.vertices.ensures.value c.edges.ensures).1; there = λ a. refl })

@@ -1,0 +1,4 @@
+pub mod Format
+pub mod Shapes
+pub mod PairLaws
+pub mod LineLaws
