@@ -114,3 +114,9 @@ chosen_first cap q h = sym (least_first cap q h)
 
 pub chosen_second : (cap q : ℤ) → q <ℤ cap → q ≡ least_of cap q
 chosen_second cap q h = sym (least_second cap q h)
+
+-- the same, told by products of natural numbers
+pub short_full : (from to cap x : ℕ) → 1 ≤ from → cap * from ≤ x * to → pos cap ≡ carried (pos from) (pos to) (pos cap) (pos x)
+short_full from to cap x h le =
+    let full : (pos cap *ℤ pos from) ≤ℤ (pos x *ℤ pos to) = omega (arith, ints, le) in
+    sym (carried_full (pos from) (pos to) (pos cap) (pos x) (omega (arith, ints, h)) (omega (arith, ints)) (omega (arith, ints)) full)

@@ -1,5 +1,5 @@
 // Numbers in another unit.
-ghost use Rattle.std.specs.Prelude.{◌≡◌, ℕ, ◌<◌, ◌≤◌, ◌^◌, length, ℤ, pos, neg_ℤ, ◌+ℤ◌, ◌*ℤ◌, ◌≤ℤ◌, ◌<ℤ◌, slice_set, true};
+ghost use Rattle.std.specs.Prelude.{◌≡◌, ℕ, ◌<◌, ◌≤◌, ◌^◌, length, ℤ, pos, neg_ℤ, ◌+ℤ◌, ◌*ℤ◌, ◌≤ℤ◌, ◌<ℤ◌, slice_set, true, IfSome};
 ghost use Rattle.pf_model.specs.Cut.{at_arc};
 ghost use Rattle.pf_frame.specs.Numbers.{IsBounded};
 ghost use Rattle.pf_carry.specs.Carry.{IsUnit, IsCarriable, carried, floored};
@@ -10,6 +10,9 @@ use pf_frame::Frame;
 
 // Below it a product with a unit keeps within 126 bits.
 const SMALL: i128 = 1 << 80;
+
+// Below it a number has 64 bits.
+const SHORT: i128 = 1 << 64;
 
 // The quotient, rounded down.
 fn quotient(x: i128, d: i128) -> i128
@@ -88,7 +91,32 @@ fn rescaled(from: i128, to: i128, x: i128) -> i128
     times(whole, to) + part(from, to, rest)
 }
 
-// The number in the new unit, rounded down and cut to the capacity. Most flows are 0 or full, so most divisions are left out.
+// The same number, where it and the capacity have 64 bits, and both products with a unit too.
+#[inline]
+fn short_fitted(from: u64, to: u64, cap: u64, x: u64) -> Option<u64>
+    requires { 1 ≤ from }
+    ensures { IfSome result (λ number. pos number ≡ carried (pos from) (pos to) (pos cap) (pos x)) }
+{
+    let full = cap.checked_mul(from)?;
+    let sent = x.checked_mul(to)?;
+    if full <= sent {
+        return Some(cap);
+    }
+    Some(sent / from)
+}
+
+// A number that has 64 bits.
+#[inline]
+fn short(x: i128) -> u64
+    requires low { pos 0 ≤ℤ x }
+    requires high { x <ℤ pos (2 ^ 64) }
+    ensures { pos result ≡ x }
+{
+    x as u64
+}
+
+// The number in the new unit, rounded down and cut to the capacity. Most numbers are short.
+#[inline]
 fn fitted(from: i128, to: i128, cap: i128, x: i128) -> i128
     requires from { IsUnit from }
     requires to { IsUnit to }
@@ -103,6 +131,28 @@ fn fitted(from: i128, to: i128, cap: i128, x: i128) -> i128
     if x == 0 {
         return 0;
     }
+    if x < SHORT && cap < SHORT {
+        if let Some(number) = short_fitted(short(from), short(to), short(cap), short(x)) {
+            return i128::from(number);
+        }
+    }
+    long_fitted(from, to, cap, x)
+}
+
+// The same, however long the numbers are. Most numbers are full, so most divisions are left out.
+#[cold]
+#[inline(never)]
+fn long_fitted(from: i128, to: i128, cap: i128, x: i128) -> i128
+    requires from { IsUnit from }
+    requires to { IsUnit to }
+    requires cap { pos 0 ≤ℤ cap }
+    requires most { cap <ℤ pos (2 ^ 104) }
+    requires low { pos 0 ≤ℤ x }
+    requires high { x ≤ℤ (pos (2 ^ 75) *ℤ from) }
+    ensures value { result ≡ carried from to cap x }
+    ensures low { pos 0 ≤ℤ result }
+    ensures most { result ≤ℤ cap }
+{
     if fills(from, to, cap, x) {
         return cap;
     }

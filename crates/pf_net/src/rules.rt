@@ -39,7 +39,12 @@ pub fn capacity(arc: &AffineArc, at: &Rat) -> i128
     requires { IsSmallArc arc.now }
     ensures { result ≡ capacity_at at.now arc.now }
 {
-    i128::from(arc.a) * at.q() + i128::from(arc.b) * at.p()
+    // The denominator has 47 bits at most, so that one product of 64 bits serves.
+    let constant = i128::from(arc.a) * i128::from(at.q() as i64);
+    if arc.b == 0 {
+        return constant;
+    }
+    constant + i128::from(arc.b) * at.p()
 }
 
 // The slope is one that an arc out of the source may have.

@@ -3,7 +3,7 @@ use Rattle.std.specs.Prelude.{◌≡◌, ◌≤ℤ◌, ◌<ℤ◌}
 use Rattle.std.proofs.lemmas.Int.{ints, to_z-of_z}
 use mir.Syntax.{w128}
 use Rattle.pf_carry.proofs.Floors.{carried_full, carried_cut, chosen_first, chosen_second}
-use Rattle.pf_carry.proofs.scaling.fitted.Goals as goal
+use Rattle.pf_carry.proofs.scaling.long_fitted.Goals as goal
 
 pub returns-then-fills-clause-value : goal.returns-then-fills-clause-value
 returns-then-fills-clause-value c =
