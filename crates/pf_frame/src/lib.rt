@@ -1,5 +1,6 @@
 //! The arcs of a network and which of them leave and enter each node; lists and tables of numbers; the test of a flow, its value, and what its
-//! residual graph reaches; the step of a breadth-first search. Each answer is exact, and only `build`, `make` and `push` take memory.
+//! residual graph reaches; the step of a breadth-first search. Each answer is exact, and only `build`, `from_ends`, `make` and
+//! `push` take memory.
 #![tactic(auto)]
 
 mod error;
