@@ -8,8 +8,9 @@ use Rattle.std.specs.Ordering.{MatchOrdering, is_lt, is_eq}
 use Rattle.std.proofs.lemmas.Bool.{cases_lt, false≢true}
 use Rattle.std.proofs.lemmas.Int.{ints}
 use Rattle.std.proofs.lemmas.List.{get_or_default}
+use Rattle.pf_model.specs.Line.{AffineLine}
 use Rattle.pf_model.specs.Fraction.{Fraction, IsBelow, IsEqual, IsParameter}
-use Rattle.pf_model.specs.Network.{Network, cut_b}
+use Rattle.pf_model.specs.Network.{Network, cut_b, line_of}
 use Rattle.pf_model.specs.Curve.{IsDivision, SlopesFall, point_at, cut_at}
 use Rattle.pf_cert.specs.Parts.{Rise}
 
@@ -74,22 +75,33 @@ rises_told points i x y start low is_x is_y r =
 abbrev pub FallsAt : Network → List (List Bool) → ℕ → Type 0
 FallsAt net cuts k = cut_b net (cut_at cuts (k + 1)) <ℤ cut_b net (cut_at cuts k)
 
-pub falls_here : (net : Network) (cuts : List (List Bool)) (i : ℕ) (first second : List Bool) → 1 ≤ i → first ≡ cut_at cuts (i - 1) → second ≡ cut_at cuts i →
-    cut_b net second <ℤ cut_b net first → FallsAt net cuts (i - 1)
-falls_here net cuts i first second start is_first is_second h =
-    let e : (i - 1) + 1 ≡ i = omega arith in
-    let P : List Bool → Type 0 = λ a. cut_b net a <ℤ cut_b net (cut_at cuts (i - 1)) in
-    let Q : List Bool → Type 0 = λ b. cut_b net second <ℤ cut_b net b in
-    subst P (is_second ∙ ap (cut_at cuts) (sym e)) (subst Q is_first h)
+-- the slopes of the cuts before the cut i fall, and the line of the last of them is at hand
+pub record HaveFallen (net : Network) (cuts : List (List Bool)) (before : AffineLine) (i : ℕ) : Type 0 where
+  pub pairs : (k : ℕ) → k + 1 < i → FallsAt net cuts k
+  pub last : before ≡ line_of net (cut_at cuts (i - 1))
 
-pub falls_told : (net : Network) (cuts : List (List Bool)) (i : ℕ) (first second : List Bool) → 1 ≤ i → i < length cuts → first ≡ cut_at cuts (i - 1) → second ≡ cut_at cuts i →
-    SlopesFall net cuts → cut_b net second <ℤ cut_b net first
-falls_told net cuts i first second start low is_first is_second s =
+pub fallen_first : (net : Network) (cuts : List (List Bool)) (before : AffineLine) → before ≡ line_of net (cut_at cuts 0) → HaveFallen net cuts before 1
+fallen_first net cuts before is = record { pairs = λ k low. absurd (omega (arith, low)); last = is }
+
+pub fallen_more : (net : Network) (cuts : List (List Bool)) (before after : AffineLine) (i : ℕ) → 1 ≤ i → HaveFallen net cuts before i → after ≡ line_of net (cut_at cuts i) →
+    after.b <ℤ before.b → HaveFallen net cuts after (i + 1)
+fallen_more net cuts before after i start h is less =
     let e : (i - 1) + 1 ≡ i = omega arith in
-    let h = s (i - 1) (omega arith) in
-    let P : List Bool → Type 0 = λ a. cut_b net a <ℤ cut_b net (cut_at cuts (i - 1)) in
-    let Q : List Bool → Type 0 = λ b. cut_b net second <ℤ cut_b net b in
-    subst Q (sym is_first) (subst P (ap (cut_at cuts) e ∙ sym is_second) h)
+    let f : (i + 1) - 1 ≡ i = omega arith in
+    let P : ℕ → Type 0 = λ n. cut_b net (cut_at cuts n) <ℤ cut_b net (cut_at cuts (i - 1)) in
+    let here : cut_b net (cut_at cuts i) <ℤ cut_b net (cut_at cuts (i - 1)) = rw (is, h.last) at less in
+    record {
+      pairs = pairs_more (FallsAt net cuts) i start h.pairs (subst P (sym e) here);
+      last = is ∙ ap (λ n. line_of net (cut_at cuts n)) (sym f);
+    }
+
+pub falls_told : (net : Network) (cuts : List (List Bool)) (before after : AffineLine) (i : ℕ) → 1 ≤ i → i < length cuts → HaveFallen net cuts before i →
+    after ≡ line_of net (cut_at cuts i) → SlopesFall net cuts → after.b <ℤ before.b
+falls_told net cuts before after i start low h is s =
+    let e : (i - 1) + 1 ≡ i = omega arith in
+    let P : ℕ → Type 0 = λ n. cut_b net (cut_at cuts n) <ℤ cut_b net (cut_at cuts (i - 1)) in
+    let here : cut_b net (cut_at cuts i) <ℤ cut_b net (cut_at cuts (i - 1)) = subst P e (s (i - 1) (omega arith)) in
+    rw (is, h.last) here
 
 -- the division of the interval, from what the code has compared; the first and the last point are known by equations
 pub division_here : (net : Network) (points : List Fraction) (cuts : List (List Bool)) (first last : Fraction) → length points ≡ length cuts + 1 → 0 < length cuts →

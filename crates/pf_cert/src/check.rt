@@ -1,31 +1,31 @@
 // What certifies a curve, part by part.
 ghost use Rattle.std.specs.Prelude.{◌≡◌, ◌+◌, ◌<◌, ◌↔◌, IsTrue, All, length};
 ghost use Rattle.std.specs.Bool.{OnTrue};
-ghost use Rattle.pf_model.specs.Network.{IsNetworkCut};
+ghost use Rattle.pf_model.specs.Network.{line_of};
 ghost use Rattle.pf_model.specs.Curve.{IsDivision, IsCurve, CertifiesCurve, Meets, own_point, cut_at, flow_at};
 ghost use Rattle.pf_frame.specs.Numbers.{IsBounded};
 ghost use Rattle.pf_frame.specs.Scratch.{Serves, KeepsPlaces};
 ghost use Rattle.pf_net.specs.Limits.{digraph_of};
 ghost use Rattle.pf_cert.specs.Parts.{AreCuts, AreFlows, AreBounded, IsReached, CertifiesCut, CertifiesCuts};
 
-use crate::cuts::{are_cuts, cut_count, slopes_fall};
+use crate::cuts::{are_cuts, cut_count, cut_line, slopes_fall};
 use crate::flows::are_flows;
 use crate::points::is_division;
 use pf_curve::Curve;
 use pf_frame::{Scratch, reach, value};
 use pf_net::{Net, Sense};
+use pf_rat::Line;
 
 // Whether the value of the flow at point `j` is the capacity of cut `i` there, both in units of `1/q` of that point `p/q`.
-fn meets(net: &Net, curve: &Curve, j: usize, i: usize) -> bool
+// The line is that of the cut.
+fn meets(net: &Net, curve: &Curve, j: usize, i: usize, line: &Line) -> bool
     requires point { j < length curve.now.points }
-    requires place { i < length curve.now.cuts }
-    requires cut { IsNetworkCut net.now (cut_at curve.now.cuts i) }
+    requires line { line.now ≡ line_of net.now (cut_at curve.now.cuts i) }
     requires flow { IsBounded (digraph_of net.now) (flow_at curve.now.flows j) }
     ensures { IsTrue result ↔ Meets net.now curve.now.points curve.now.cuts curve.now.flows j i }
 {
     let points = curve.points();
     let sent = value(net.frame(), net.source(), curve.flow(j));
-    let line = net.cut_line(curve.cut(i));
     sent == line.at(&points[j])
 }
 
@@ -101,10 +101,11 @@ fn certifies_cut(
 {
     // Gives the proof the numbers of points and flows.
     let _ = curve.points();
-    if !meets(net, curve, i, i) {
+    let line = cut_line(net, curve, i);
+    if !meets(net, curve, i, i, &line) {
         return false;
     }
-    if !meets(net, curve, i + 1, i) {
+    if !meets(net, curve, i + 1, i, &line) {
         return false;
     }
     let own = own_place(net, curve, i);

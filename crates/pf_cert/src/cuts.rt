@@ -1,11 +1,12 @@
 // The cuts of a curve: each holds the source and not the sink, and their slopes fall strictly.
 ghost use Rattle.std.specs.Prelude.{◌≡◌, ◌<◌, ◌<ℤ◌, ◌↔◌, IsTrue, All, length};
-ghost use Rattle.pf_model.specs.Network.{IsNetworkCut, cut_b};
-ghost use Rattle.pf_model.specs.Curve.{SlopesFall};
+ghost use Rattle.pf_model.specs.Network.{IsNetworkCut, line_of};
+ghost use Rattle.pf_model.specs.Curve.{SlopesFall, cut_at};
 ghost use Rattle.pf_cert.specs.Parts.{AreCuts};
 
 use pf_curve::Curve;
 use pf_net::Net;
+use pf_rat::Line;
 
 /// The number of cuts.
 pub fn cut_count(curve: &Curve) -> usize
@@ -27,14 +28,21 @@ pub fn are_cuts(net: &Net, curve: &Curve) -> bool
     true
 }
 
-// Whether the slope of the second cut is below that of the first.
-fn falls(net: &Net, first: &[bool], second: &[bool]) -> bool
-    requires first { IsNetworkCut net.now first.now }
-    requires second { IsNetworkCut net.now second.now }
-    ensures { IsTrue result ↔ (cut_b net.now second.now <ℤ cut_b net.now first.now) }
+/// The line of cut `i`.
+pub fn cut_line(net: &Net, curve: &Curve, i: usize) -> Line
+    requires place { i < length curve.now.cuts }
+    requires cut { IsNetworkCut net.now (cut_at curve.now.cuts i) }
+    ensures { result ≡ line_of net.now (cut_at curve.now.cuts i) }
 {
-    let before = net.cut_line(first).b();
-    let after = net.cut_line(second).b();
+    net.cut_line(curve.cut(i))
+}
+
+// Whether the slope of the second line is below that of the first.
+fn falls(first: &Line, second: &Line) -> bool
+    ensures { IsTrue result ↔ (second.now.b <ℤ first.now.b) }
+{
+    let before = first.b();
+    let after = second.b();
     after < before
 }
 
@@ -43,10 +51,17 @@ pub fn slopes_fall(net: &Net, curve: &Curve) -> bool
     requires { AreCuts net.now curve.now.cuts }
     ensures { IsTrue result ↔ SlopesFall net.now curve.now.cuts }
 {
-    'cuts: for i in 1..cut_count(curve) {
-        if !falls(net, curve.cut(i - 1), curve.cut(i)) {
+    let count = cut_count(curve);
+    if count == 0 {
+        return true;
+    }
+    let mut before = cut_line(net, curve, 0);
+    'cuts: for i in 1..count {
+        let after = cut_line(net, curve, i);
+        if !falls(&before, &after) {
             return false;
         }
+        before = after;
     }
     true
 }

@@ -1,4 +1,4 @@
-use Rattle.std.proofs.Common.{◌≡◌, of_z, length, arith, ap, sym, ◌∙◌}
+use Rattle.std.proofs.Common.{◌≡◌, refl, of_z, length, arith, ap, sym, ◌∙◌}
 use Rattle.std.proofs.lemmas.Bool.{eqb-true}
 use Rattle.std.proofs.lemmas.Int.{ints}
 use Rattle.pf_model.specs.Curve.{point_at, cut_at, flow_at}
@@ -18,7 +18,7 @@ returns c =
     let e = point_here net points c.points-points.result.now j c.index-points-j.result shown (omega (arith, ap length shown)) c.index-points-j.is in
     let sent = value_here net x c.frame.result.now c.source.result c.flow.result.now (flow_at flows j) c.value-sent.result c.frame.ensures.frame c.source.ensures c.flow.ensures
     c.value-sent.ensures in
-    let level = level_here net x c.index-points-j.result c.cut.result.now (cut_at cuts i) c.cut_line-line.result c.at.result c.cut.ensures c.cut_line-line.ensures e c.at.ensures in (
+    let level = level_here net x c.index-points-j.result (cut_at cuts i) (cut_at cuts i) c.args.line.now c.at.result refl c.requires.line e c.at.ensures in (
       λ told.
           let seen : of_z mir.Syntax.w128 c.value-sent.result ≡ of_z mir.Syntax.w128 c.at.result = eqb-true _ _ told in
           let same : c.value-sent.result ≡ c.at.result = omega (arith, ints, seen) in

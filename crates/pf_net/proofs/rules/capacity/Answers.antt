@@ -1,5 +1,5 @@
 use Rattle.std.proofs.Common.{◌≡◌, arith}
-use Rattle.std.specs.Prelude.{pos, ◌*ℤ◌}
+use Rattle.std.specs.Prelude.{pos}
 use Rattle.std.proofs.lemmas.Int.{ints}
 use Rattle.pf_rat.proofs.Products.{comes_back}
 use Rattle.pf_net.proofs.CapacityBounds.{short}
