@@ -9,12 +9,12 @@ mod finder;
 mod function;
 mod point;
 mod point_at;
-#[cfg(test)]
-mod tests;
 mod turning;
 
-pub use curve::{Curve, CutFunction, Points, Sides};
+pub use between::Opened;
+pub use curve::{Curve, CutFunction, Points, Rows, Sides};
+pub use family::{Cut, Cuts};
 pub use finder::Finder;
-pub use function::{curve_of, cuts_of};
+pub use function::{Flows, curve_of, cuts_of, flows_at};
 pub use point::Point;
 pub use point_at::{AtBad, at};

@@ -10,8 +10,6 @@ mod drawing;
 pub mod laws;
 mod spelling;
 mod summary;
-#[cfg(test)]
-mod tests;
 mod writing;
 
 pub use spelling::net_text;

@@ -5,4 +5,3 @@ pub mod Smallest
 pub mod Openings
 pub mod Opened
 pub mod CoreLemmas
-pub mod TestedSides

@@ -7,7 +7,5 @@ mod inner;
 pub mod laws;
 mod opening;
 mod piece;
-#[cfg(test)]
-mod tests;
 
 pub use piece::Piece;

@@ -7,8 +7,6 @@ mod moving;
 mod parameter;
 mod rows;
 mod sweep;
-#[cfg(test)]
-mod tests;
 mod turning;
 mod writing;
 

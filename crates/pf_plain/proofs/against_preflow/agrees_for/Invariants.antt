@@ -1,5 +1,0 @@
-use Rattle.std.specs.Prelude.{◌<◌}
-use Rattle.pf_plain.proofs.against_preflow.agrees_for.Given as goal
-
-abbrev pub invariant-arcs : goal.invariant-arcs
-invariant-arcs l = l.x < 2147483647

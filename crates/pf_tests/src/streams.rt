@@ -1,0 +1,119 @@
+use pf_io::{
+    Failed, MemSink, MemSource, Printer, ReadEnd, Sink, Source, StdSink, StdSource, read_all,
+};
+use std::io::{self, Cursor, ErrorKind, Read, Write};
+use std::test::Fail;
+
+#[test]
+fn all_bytes_within_a_limit(rt: HostRuntime) -> Result<(), Fail> {
+    let alloc = rt.alloc();
+    let mut eight = MemSource::new(alloc, b"12345678", 3, &[])?;
+    let bytes = read_all(alloc, &mut eight, 8)?;
+    assert_eq!(rt; bytes.as_slice(), b"12345678".as_slice());
+    let mut nine = MemSource::new(alloc, b"123456789", 3, &[])?;
+    assert!(rt; matches!(read_all(alloc, &mut nine, 8), Err(ReadEnd::TooLong)));
+    Ok(())
+}
+
+// Eight bytes in pieces of three take four reads, of which the last gives nothing.
+#[test]
+fn each_read_fails_in_turn(rt: HostRuntime) -> Result<(), Fail> {
+    let alloc = rt.alloc();
+    for failing in 1..=4 {
+        let mut source = MemSource::new(alloc, b"12345678", 3, &[failing])?;
+        assert!(rt;
+            matches!(read_all(alloc, &mut source, 8), Err(ReadEnd::Failed)),
+            "at {failing}"
+        );
+    }
+    let mut source = MemSource::new(alloc, b"12345678", 3, &[5])?;
+    let bytes = read_all(alloc, &mut source, 8)?;
+    assert_eq!(rt; bytes.as_slice(), b"12345678".as_slice());
+    Ok(())
+}
+
+const WHOLE: &[u8] = b"s 1 -170141183460469231731687303715884105728";
+
+fn print_smallest<K: Sink>(sink: &mut K) -> Result<(), Failed> {
+    let mut printer = Printer::new(sink);
+    printer.word(b"s 1 ")?;
+    printer.num(-170141183460469231731687303715884105728)?;
+    printer.finish()
+}
+
+// Forty-four bytes in pieces of ten take five writes and a flush.
+#[test]
+fn each_call_of_a_sink_fails_in_turn(rt: HostRuntime) -> Result<(), Fail> {
+    let alloc = rt.alloc();
+    for failing in 1..=6 {
+        let mut sink = MemSink::new(alloc, 64, 10, &[failing])?;
+        assert!(rt; print_smallest(&mut sink).is_err(), "at {failing}");
+        let taken = (10 * (failing as usize - 1)).min(44);
+        assert_eq!(rt; sink.taken(), &WHOLE[..taken]);
+        assert_eq!(rt; sink.flushed(), 0);
+    }
+    let mut sink = MemSink::new(alloc, 64, 10, &[7])?;
+    print_smallest(&mut sink)?;
+    assert_eq!(rt; sink.taken(), WHOLE);
+    assert_eq!(rt; sink.flushed(), 44);
+    let mut small = MemSink::new(alloc, 43, 64, &[])?;
+    assert!(rt; print_smallest(&mut small).is_err());
+    assert_eq!(rt; small.taken(), &WHOLE[..43]);
+    Ok(())
+}
+
+#[test]
+fn few_writes_of_a_long_text(rt: HostRuntime) -> Result<(), Fail> {
+    let alloc = rt.alloc();
+    let text = [b'x'; 9000];
+    let mut sink = MemSink::new(alloc, 10000, 10000, &[4])?;
+    let mut printer = Printer::new(&mut sink);
+    printer.word(&text[..1000])?;
+    printer.word(&text)?;
+    printer.finish()?;
+    assert_eq!(rt; sink.flushed(), 10000);
+    Ok(())
+}
+
+#[derive(Drop)]
+struct Broken;
+
+impl Read for Broken {
+    fn read(&mut self, _room: &mut [u8]) -> io::Result<usize> {
+        Err(ErrorKind::Other.into())
+    }
+}
+
+impl Write for Broken {
+    fn write(&mut self, _piece: &[u8]) -> io::Result<usize> {
+        Err(ErrorKind::Other.into())
+    }
+
+    fn flush(&mut self) -> io::Result<()> {
+        Err(ErrorKind::Other.into())
+    }
+}
+
+#[test]
+fn a_source_over_a_reader_of_std(rt: HostRuntime) -> Result<(), Fail> {
+    let alloc = rt.alloc();
+    let mut source = StdSource::new(Cursor::new(b"hello".as_slice()));
+    let bytes = read_all(alloc, &mut source, 8)?;
+    assert_eq!(rt; bytes.as_slice(), b"hello".as_slice());
+    let mut broken = StdSource::new(Broken);
+    assert!(rt; matches!(read_all(alloc, &mut broken, 8), Err(ReadEnd::Failed)));
+    Ok(())
+}
+
+#[test]
+fn a_sink_over_a_writer_of_std(rt: HostRuntime) -> Result<(), Fail> {
+    let mut room = [0u8; 3];
+    let mut sink = StdSink::new(room.as_mut_slice());
+    assert_eq!(rt; sink.write(b"hello")?, 3);
+    sink.flush()?;
+    assert!(rt; sink.write(b"lo").is_err());
+    let mut broken = StdSink::new(Broken);
+    assert!(rt; broken.write(b"hello").is_err());
+    assert!(rt; broken.flush().is_err());
+    Ok(())
+}
