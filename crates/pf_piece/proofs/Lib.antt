@@ -5,3 +5,4 @@ pub mod Smallest
 pub mod Openings
 pub mod Opened
 pub mod CoreLemmas
+pub mod Gathered
