@@ -25,7 +25,7 @@ sum_append test n (x ∷ xs) ys =
     (sum_where test (map ends_of xs) (numbers_of n xs)) (sum_where test (map ends_of ys) (numbers_of n ys)) (sum_append test n xs ys)
 
 -- one arc more or less in front
-kept_step : (keep here : Bool) (test : ℕ × ℕ → Bool) (n : ℤ → ℤ → ℤ) (first : AffineArc) (rest : List AffineArc) (y : ℤ) → here ≡ test (ends_of first) →
+pub kept_step : (keep here : Bool) (test : ℕ × ℕ → Bool) (n : ℤ → ℤ → ℤ) (first : AffineArc) (rest : List AffineArc) (y : ℤ) → here ≡ test (ends_of first) →
     sum_where test (map ends_of rest) (numbers_of n rest) ≡ y →
     sum_where test (map ends_of (cond keep (first ∷ rest) rest)) (numbers_of n (cond keep (first ∷ rest) rest)) ≡ cond (keep && here) (n first.a first.b) (pos 0) +ℤ y
 kept_step true here test n first rest y e f = let same = ap (λ b. cond b (n first.a first.b) (pos 0)) e in omega (arith, ints, same, f)

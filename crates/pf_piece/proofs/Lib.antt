@@ -6,3 +6,5 @@ pub mod Openings
 pub mod Opened
 pub mod CoreLemmas
 pub mod Gathered
+pub mod Rows
+pub mod OpenedCore
