@@ -1,18 +1,18 @@
 -- The arcs at inner nodes, gathered node by node: every sum over them is one over the network's arcs.
-use Rattle.std.proofs.Common.{◌≡◌, ℕ, zero, suc, ◌+◌, ◌<◌, List, [], ◌∷◌, ◌++◌, length, get_or, take, map, refl, Bool, true, false, cond, not, ◌&&◌, ◌||◌, eqb, ltb, add-one, arith, ap, sym, ◌∙◌, inl, inr}
+use Rattle.std.proofs.Common.{◌≡◌, ℕ, zero, suc, ◌+◌, ◌<◌, List, [], ◌∷◌, ◌++◌, length, get_or, take, map, refl, Bool, true, false, cond, not, ◌&&◌, eqb, ltb, add-one, arith, ap, sym, ◌∙◌}
 use Rattle.std.specs.Prelude.{ℤ, ◌+ℤ◌, pos}
 use Rattle.std.proofs.lemmas.Int.{ints}
 use Rattle.std.proofs.lemmas.List.{length-map}
 use Rattle.pf_model.specs.declared.AffineArc.{AffineArc}
 use Rattle.pf_model.specs.Cut.{sum_where}
-use Rattle.pf_model.specs.Digraph.{Digraph, numbers_from, arcs_out, arcs_in}
+use Rattle.pf_model.specs.Digraph.{numbers_from, arcs_out, arcs_in}
 use Rattle.pf_model.specs.Network.{Network, ends_of}
 use Rattle.pf_model.proofs.Numbers.{out_number, in_number}
 use Rattle.pf_net.specs.Limits.{digraph_of}
 use Rattle.pf_model.proofs.Facts.{none_before, add_before, join_three}
 use Rattle.pf_piece.specs.Piece.{renamed, arcs_between}
 use Rattle.pf_piece.specs.Held.{arc_at}
-use Rattle.pf_piece.specs.Cores.{numbers_of, arcs_entering, belongs_below}
+use Rattle.pf_piece.specs.Cores.{numbers_of, arcs_entering}
 use Rattle.pf_piece.proofs.Openings.{between_suc}
 
 -- a sum over two lists, one after the other

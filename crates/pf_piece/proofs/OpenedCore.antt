@@ -1,5 +1,5 @@
 -- What was gathered of a core is a network within the limits, and has its sums.
-use Rattle.std.proofs.Common.{◌≡◌, ℕ, suc, ◌+◌, ◌<◌, ◌≤◌, List, [], ◌∷◌, length, map, refl, Bool, true, false, cond, not, ◌&&◌, ◌||◌, eqb, ltb, arith, ap, sym, ◌∙◌, subst}
+use Rattle.std.proofs.Common.{◌≡◌, ℕ, suc, ◌≤◌, List, [], ◌∷◌, length, map, refl, Bool, true, false, cond, not, ◌&&◌, ◌||◌, eqb, ltb, arith, ap, sym, ◌∙◌, subst}
 use Rattle.std.specs.Prelude.{ℤ, ◌+ℤ◌, ◌≤ℤ◌, pos, All}
 use Rattle.std.proofs.lemmas.Int.{ints}
 use Rattle.std.proofs.lemmas.Bool.{lt-ltb}
@@ -81,7 +81,7 @@ one_of_core : (part : Between) (places : List ℕ) (arc : AffineArc) → IsBuilt
 one_of_core part places arc built nested p w =
     let below = network_below part.net built w.number no_arc w.known in
     let same : arc ≡ renamed (place part.small part.large) (arc_at part.net.arcs w.number) =
-        w.arc_is ∙ renamed_same part.net.nodes (placed places) (place part.small part.large) (arc_at part.net.arcs w.number) p.each below in
+    w.arc_is ∙ renamed_same part.net.nodes (placed places) (place part.small part.large) (arc_at part.net.arcs w.number) p.each below in
     subst (IsCoreArc part) (sym same)
     (core_arc part (arc_at part.net.arcs w.number) nested (built.monotone.each w.number no_arc w.known) (built.limits.each w.number no_arc w.known)
     (sym (ap (λ (a : AffineArc). ltb 1 a.tail || ltb 1 a.head) same) ∙ w.inner))

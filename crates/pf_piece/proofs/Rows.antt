@@ -189,11 +189,11 @@ sums_more : (f : ℕ → ℕ) (net : Network) (v : ℕ) (old : List AffineArc) �
 sums_more f net v old h inner test n =
     sum_append test n (old ++ outs_of f net v) (ins_of f net v)
     ∙ ap₂ (λ x y. x +ℤ y)
-      (sum_append test n old (outs_of f net v) ∙ ap₂ (λ x y. x +ℤ y) (h.sums test n) (sum_outs f net v test n))
-      (sum_ins f net v test n)
+    (sum_append test n old (outs_of f net v) ∙ ap₂ (λ x y. x +ℤ y) (h.sums test n) (sum_outs f net v test n))
+    (sum_ins f net v test n)
     ∙ sym (sum_three (λ e. belongs_below f (v + 1) e && test (f e.0, f e.1)) (λ e. belongs_below f v e && test (f e.0, f e.1))
-      (λ e. eqb e.0 v && (not (eqb (f e.0) (f e.1)) && test (f e.0, f e.1))) (λ e. eqb e.1 v && (ltb (f e.0) 2 && test (f e.0, f e.1))) n
-      (split_at f v test inner) net.arcs)
+    (λ e. eqb e.0 v && (not (eqb (f e.0) (f e.1)) && test (f e.0, f e.1))) (λ e. eqb e.1 v && (ltb (f e.0) 2 && test (f e.0, f e.1))) n
+    (split_at f v test inner) net.arcs)
 
 -- the number of an arc at a node that another one than 0 and 1 stands for
 record IsHere (f : ℕ → ℕ) (arcs : List AffineArc) (i : ℕ) : Type 0 where
@@ -247,7 +247,7 @@ pub gathered_more : (f : ℕ → ℕ) (net : Network) (v : ℕ) (outs ins : List
 gathered_more f net v outs ins old mid new h inner out_row in_row mid_is new_is =
     let first : mid ≡ old ++ outs_of f net v = mid_is ∙ ap (λ (row : List ℕ). old ++ arcs_between f (map (λ i. arc_at net.arcs i) row)) out_row in
     let second : new ≡ (old ++ outs_of f net v) ++ ins_of f net v =
-        new_is ∙ ap₂ (λ (xs : List AffineArc) (row : List ℕ). xs ++ arcs_entering f (map (λ i. arc_at net.arcs i) row)) first in_row in
+    new_is ∙ ap₂ (λ (xs : List AffineArc) (row : List ℕ). xs ++ arcs_entering f (map (λ i. arc_at net.arcs i) row)) first in_row in
     subst (IsGathered f (v + 1) net.arcs) (sym second) (record {
       sums = sums_more f net v old h inner;
       each = All-append (IsInnerArc f net.arcs) (old ++ outs_of f net v) (ins_of f net v)
