@@ -1,5 +1,5 @@
 -- Formats as values of proofs, and whole texts.
-use Rattle.std.proofs.Common.{◌≡◌, ℕ, List, [], ◌++◌, Result, Ok, Err, sym, ap, subst, ◌∙◌}
+use Rattle.std.proofs.Common.{◌≡◌, ℕ, List, [], ◌++◌, Result, Ok, Err, sym, ap, ◌∙◌}
 use Rattle.std.specs.Prelude.{ℤ, IsErrAnd}
 use Rattle.std.proofs.lemmas.List.{append-nil}
 use Rattle.pf_model.specs.Fraction.{Fraction}
@@ -7,7 +7,7 @@ use Rattle.pf_model.specs.Answer.{IsFractionShape}
 use Rattle.pf_text.specs.Spelling.{row_line, fraction_line, table_text}
 use Rattle.pf_lines.specs.declared.errors.AnswerBad.{AnswerBad}
 use Rattle.pf_lines.specs.declared.errors.AnswerBad.TheVariants.{NotText}
-use Rattle.pf_lines.specs.Taking.{IsExcused, IsFlowRow}
+use Rattle.pf_lines.specs.Taking.{IsFlowRow}
 use Rattle.pf_io.specs.Printing.{Adds}
 use Rattle.pf_io.specs.declared.device.Failed.{Failed}
 use Rattle.pf_io.specs.declared.device.Sink.{Ghosts}
@@ -63,16 +63,15 @@ whole_refused {X} {text} {Is} {old} {left} {whole} {bad} (Err b) begun r exit = 
 }
 
 -- something is left after the value
-pub whole_longer : {X : Type 0} {text : X → List ℕ} {Is : X → Type 0} {old left whole : List ℕ} {x : X} (bad : AnswerBad) (result : Result X AnswerBad) → HasOneReading text Is → old ≡ whole
-    → Reads text Is old left (Ok x) → (left ≡ [] → IsExcused bad) → IsErrAnd result (λ b. b ≡ bad) → ReadsWhole text Is whole result
-whole_longer bad (Ok y) one begun r found exit = absurd exit
-whole_longer {X} {text} {Is} {old} {left} {whole} {x} bad (Err b) one begun r found exit = record {
+pub whole_longer : {X : Type 0} {text : X → List ℕ} {Is : X → Type 0} {old left whole : List ℕ} {x : X} (result : Result X AnswerBad) → HasOneReading text Is → old ≡ whole
+    → Reads text Is old left (Ok x) → (left ≡ [] → ⊥) → IsErrAnd result (λ b. b ≡ NotText) → ReadsWhole text Is whole result
+whole_longer (Ok y) one begun r found exit = absurd exit
+whole_longer {X} {text} {Is} {old} {left} {whole} {x} (Err b) one begun r found exit = record {
   shape = tt;
   spelled = tt;
   refused = λ e y is there.
-      let told : b ≡ NotText = cc in
       let same = one x y left [] r.shape is (sym r.taken ∙ begun ∙ there ∙ sym (append-nil (text y))) in
-      subst IsExcused (sym exit ∙ told) (found same.left);
+      absurd (found same.left);
 }
 
 -- values whose texts are equal are equal

@@ -34,7 +34,8 @@ impl<'a> Format for FractionRow<'a> {
     }
 
     fn take(&self, _alloc: Global, source: &mut Exact<'_>) -> Result<Rat, AnswerBad> {
-        take_fraction_row(source, self.word, &[])
+        let at = take_fraction_row(source, self.word, &[])?;
+        Ok(at)
     }
 }
 

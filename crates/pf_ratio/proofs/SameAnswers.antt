@@ -1,13 +1,12 @@
 -- Answers of one shape with equal texts are equal.
 use Rattle.std.proofs.Common.{◌≡◌, ℕ, ◌<◌, ◌^◌, List, [], ◌∷◌, ◌++◌, length, get_or, drop, map, refl, sym, ap, ◌∙◌, append_assoc, arith}
-use Rattle.std.specs.Prelude.{ℤ, Bool, nat_abs, codes}
+use Rattle.std.specs.Prelude.{ℤ, Bool, codes}
 use Rattle.std.specs.List.{AllByRecursion}
 use Rattle.std.specs.Fmt.{signed_decimal}
-use Rattle.std.proofs.lemmas.Int.{ints}
 use Rattle.std.proofs.lemmas.List.{append-nil, append_cancel_left}
 use Rattle.std.proofs.lemmas.List.Elements.{recursion_from_All}
 use Rattle.pf_model.specs.Fraction.{Fraction}
-use Rattle.pf_model.specs.Answer.{IsWithinSize, IsFractionShape}
+use Rattle.pf_model.specs.Answer.{IsWithinSize}
 use Rattle.pf_text.specs.Spelling.{line, row_line, side_line, side_text, rest_of_line}
 use Rattle.pf_text.proofs.SameParts.{same_fraction, same_numbers}
 use Rattle.pf_text.proofs.SpellingLemmas.{line_is}

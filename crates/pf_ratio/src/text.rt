@@ -10,7 +10,8 @@ ghost use Rattle.pf_ratio.specs.Answer.{IsAnswerShape, answer_text};
 use pf_frame::{Numbers, Side};
 use pf_io::{Failed, Printer, Sink, print_fraction_row, print_row, print_side_row};
 use pf_lines::{
-    AnswerBad, Exact, take_end, take_flow_row, take_fraction_row, take_side_row, take_word,
+    AnswerBad, Exact, NotThere, take_end, take_flow_row, take_fraction_row, take_side_row,
+    take_word,
 };
 use pf_rat::Rat;
 use std::alloc::Global;
@@ -54,7 +55,7 @@ pub fn write_answer<K: Sink>(
 }
 
 // The first line.
-fn take_name(text: &mut Exact<'_>, name: &[u8]) -> Result<(), AnswerBad>
+fn take_name(text: &mut Exact<'_>, name: &[u8]) -> Result<(), NotThere>
     ensures taken { IfOk result (λ _. text.old ≡ line (codes "o" ∷ name.now ∷ []) ++ text.new) }
     ensures found { (rest : List ℕ) → text.old ≡ line (codes "o" ∷ name.now ∷ []) ++ rest → Passes rest result text.new }
 {

@@ -5,16 +5,14 @@ use Rattle.pf_ratio.proofs.text.take_answer.Goals as goal
 
 pub returns-in_err-take_name-clause-found : goal.returns-in_err-take_name-clause-found
 returns-in_err-take_name-clause-found c = λ a rest shape there.
-    let p = err_from_is_err_and c.from_residual.result c.from_residual.ensures.1 in
     let lines = ratio_lines c.args.word.now a.ratio a.chosen a.numbers rest in
-    rw (p.1, p.2) (c.in_err-take_name.ensures.found lines (there ∙ all_lines c.args.name.now c.args.word.now a.ratio a.chosen a.numbers rest))
+    absurd (c.in_err-take_name.ensures.found lines (there ∙ all_lines c.args.name.now c.args.word.now a.ratio a.chosen a.numbers rest))
 
 pub returns-in_err-ratio-clause-found : goal.returns-in_err-ratio-clause-found
 returns-in_err-ratio-clause-found c = λ a rest shape there.
-    let p = err_from_is_err_and c.from_residual-in_err-ratio.result c.from_residual-in_err-ratio.ensures.1 in
     let lines = ratio_lines c.args.word.now a.ratio a.chosen a.numbers rest in
     let n = c.in_ok-take_name.ensures.found lines (there ∙ all_lines c.args.name.now c.args.word.now a.ratio a.chosen a.numbers rest) in
-    rw (p.1, p.2) (c.in_err-ratio.ensures.found a.ratio (set_lines a.chosen a.numbers rest) shape.ratio n)
+    absurd (c.in_err-ratio.ensures.found a.ratio (set_lines a.chosen a.numbers rest) shape.ratio n)
 
 pub returns-in_err-chosen-clause-found : goal.returns-in_err-chosen-clause-found
 returns-in_err-chosen-clause-found c = λ a rest shape there.
@@ -35,13 +33,12 @@ returns-in_err-numbers-clause-found c = λ a rest shape there.
 
 pub returns-in_err-take_word-clause-found : goal.returns-in_err-take_word-clause-found
 returns-in_err-take_word-clause-found c = λ a rest shape there.
-    let p = err_from_is_err_and c.from_residual-in_err-take_word.result c.from_residual-in_err-take_word.ensures.1 in
     let lines = ratio_lines c.args.word.now a.ratio a.chosen a.numbers rest in
     let n = c.in_ok-take_name.ensures.found lines (there ∙ all_lines c.args.name.now c.args.word.now a.ratio a.chosen a.numbers rest) in
     let r = c.in_ok-ratio.ensures.found a.ratio (set_lines a.chosen a.numbers rest) shape.ratio n in
     let s = c.in_ok-chosen.ensures.found a.chosen (number_lines a.numbers rest) shape.chosen r.1 in
     let f = c.in_ok-numbers.ensures.found a.numbers (last_lines rest) (row_of_shape _ _ _ _ _ shape) s.1 in
-    rw (p.1, p.2) (c.in_err-take_word.ensures.found rest f.1)
+    absurd (c.in_err-take_word.ensures.found rest f.1)
 
 pub returns-clause-found : goal.returns-clause-found
 returns-clause-found c = λ a rest shape there.

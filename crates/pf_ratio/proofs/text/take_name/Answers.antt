@@ -1,25 +1,21 @@
 use Rattle.std.proofs.Common.{◌∷◌, ◌++◌, ℕ, List, ap, sym, ◌∙◌}
 use Rattle.std.specs.Prelude.{codes}
-use Rattle.std.proofs.lemmas.Result.{err_from_is_err_and}
 use Rattle.pf_ratio.proofs.TextLemmas.{name_line}
 use Rattle.pf_ratio.proofs.text.take_name.Goals as goal
 
 pub returns-in_err-take_word-clause-found : goal.returns-in_err-take_word-clause-found
 returns-in_err-take_word-clause-found c = λ rest there.
-    let p = err_from_is_err_and c.from_residual.result c.from_residual.ensures.1 in
-    rw (p.1, p.2) (c.in_err-take_word.ensures.found (c.args.name.now ++ (10 ∷ rest)) (there ∙ name_line c.args.name.now rest))
+    absurd (c.in_err-take_word.ensures.found (c.args.name.now ++ (10 ∷ rest)) (there ∙ name_line c.args.name.now rest))
 
 pub returns-in_err-take_word-2-clause-found : goal.returns-in_err-take_word-2-clause-found
 returns-in_err-take_word-2-clause-found c = λ rest there.
-    let p = err_from_is_err_and c.from_residual-in_err-take_word-2.result c.from_residual-in_err-take_word-2.ensures.1 in
     let a = c.in_ok-take_word.ensures.found (c.args.name.now ++ (10 ∷ rest)) (there ∙ name_line c.args.name.now rest) in
-    rw (p.1, p.2) (c.in_err-take_word-2.ensures.found (10 ∷ rest) a)
+    absurd (c.in_err-take_word-2.ensures.found (10 ∷ rest) a)
 
 pub returns-in_err-take_word-3-clause-found : goal.returns-in_err-take_word-3-clause-found
 returns-in_err-take_word-3-clause-found c = λ rest there.
-    let p = err_from_is_err_and c.from_residual-in_err-take_word-3.result c.from_residual-in_err-take_word-3.ensures.1 in
     let a = c.in_ok-take_word.ensures.found (c.args.name.now ++ (10 ∷ rest)) (there ∙ name_line c.args.name.now rest) in
-    rw (p.1, p.2) (c.in_err-take_word-3.ensures.found rest (c.in_ok-take_word-2.ensures.found (10 ∷ rest) a))
+    absurd (c.in_err-take_word-3.ensures.found rest (c.in_ok-take_word-2.ensures.found (10 ∷ rest) a))
 
 pub returns-clause-taken : goal.returns-clause-taken
 returns-clause-taken c =
