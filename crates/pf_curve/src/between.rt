@@ -23,7 +23,9 @@ pub struct Opened {
 }
 
 impl Opened {
-    pub fn none() -> Opened {
+    pub fn none() -> Opened
+        ensures { result ≡ record { pieces = 0; nodes = 0 } }
+    {
         Opened {
             pieces: 0,
             nodes: 0,
