@@ -204,26 +204,38 @@ fn read_level(bytes: &[u8]) -> Option<Reinforce>
 fn name_of(word: &[u8]) -> Option<Name>
     ensures { beside names word.now ≡ result }
 {
-    match word {
-        b"curve" => Some(Name::Curve),
-        b"closure" => Some(Name::Closure),
-        b"densest" => Some(Name::Densest),
-        b"strength" => Some(Name::Strength),
-        b"select" => Some(Name::Select),
-        b"partition" => Some(Name::Partition),
-        b"share" => Some(Name::Share),
-        _ => None,
+    if word == b"curve".as_slice() {
+        return Some(Name::Curve);
     }
+    if word == b"closure".as_slice() {
+        return Some(Name::Closure);
+    }
+    if word == b"densest".as_slice() {
+        return Some(Name::Densest);
+    }
+    if word == b"strength".as_slice() {
+        return Some(Name::Strength);
+    }
+    if word == b"select".as_slice() {
+        return Some(Name::Select);
+    }
+    if word == b"partition".as_slice() {
+        return Some(Name::Partition);
+    }
+    if word == b"share".as_slice() {
+        return Some(Name::Share);
+    }
+    None
 }
 
 // What a word asks for that stands alone, if it is one that `check` does not know.
 fn lone_word(first: &[u8]) -> Option<Request>
     ensures { beside lone_words first.now ≡ option_map command_of_request result }
 {
-    match first {
-        b"layers" => Some(Request::Text(TextRequest::Layers)),
-        _ => None,
+    if first == b"layers".as_slice() {
+        return Some(Request::Text(TextRequest::Layers));
     }
+    None
 }
 
 // What one word asks for, if it has the form of a command.
@@ -301,15 +313,25 @@ fn generate_word(second: &[u8]) -> Option<Request>
 fn two_words(first: &[u8], second: &[u8]) -> Option<Request>
     ensures { option_and_then (λ read. read second.now) (beside first_words first.now) ≡ option_map command_of_request result }
 {
-    match first {
-        b"at" => at_word(second),
-        b"check" => check_word(second),
-        b"sweep" => sweep_word(second),
-        b"trees" => trees_word(second),
-        b"reinforce" => reinforce_word(second),
-        b"generate" => generate_word(second),
-        _ => None,
+    if first == b"at".as_slice() {
+        return at_word(second);
     }
+    if first == b"check".as_slice() {
+        return check_word(second);
+    }
+    if first == b"sweep".as_slice() {
+        return sweep_word(second);
+    }
+    if first == b"trees".as_slice() {
+        return trees_word(second);
+    }
+    if first == b"reinforce".as_slice() {
+        return reinforce_word(second);
+    }
+    if first == b"generate".as_slice() {
+        return generate_word(second);
+    }
+    None
 }
 
 /// What the words ask for, if they have the form of a command.
