@@ -3,6 +3,7 @@ use Rattle.std.specs.Prelude.{◌≡◌, ℕ, ◌<◌, ◌^◌, ℤ, ◌-ℤ◌,
 use Rattle.pf_model.specs.Fraction.{Fraction, IsParameter}
 use Rattle.pf_model.specs.Cut.{has, at_arc, IsContained}
 use Rattle.pf_model.specs.Flow.{sum_out, sum_in}
+use Rattle.pf_ratio.specs.Answer.{Parts}
 use Rattle.pf_closure.specs.Problem.{ClosureProblem, IsNonempty, needing_at, needed_at}
 
 -- a ratio p/q, the chosen items, and a number on each need in units of 1/q
@@ -10,6 +11,10 @@ pub record RatioAnswer : Type 0 where
   pub ratio : Fraction
   pub chosen : List Bool
   pub routing : List ℤ
+
+-- the answer of these parts, as its text has them one after the other
+abbrev pub of_parts : Parts → RatioAnswer
+of_parts parts = record { ratio = parts.0; chosen = parts.1.0; routing = parts.1.1 }
 
 -- what the needs that point to an item bring to it, less what those that leave it take
 abbrev pub net_inflow : ClosureProblem → List ℤ → ℕ → ℤ

@@ -17,7 +17,7 @@ AcceptedIsBounded = (text : List ℕ) (read : Accepted ClosureProblem) → probl
 
 -- answers of the right shape with equal texts are equal
 abbrev pub RatioFromText : Type 0
-RatioFromText = (p : ClosureProblem) (a b : RatioAnswer) → IsClosureProblem p → IsRatioShape p a → IsRatioShape p b → ratio_text a ≡ ratio_text b → a ≡ b
+RatioFromText = (p : ClosureProblem) (a b : RatioAnswer) → IsRatioShape p a → IsRatioShape p b → ratio_text a ≡ ratio_text b → a ≡ b
 
 -- the verdict is `yes` for exactly the texts of right answers
 abbrev pub CertifiedIsRight : Type 0

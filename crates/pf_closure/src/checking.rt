@@ -91,8 +91,6 @@ pub fn is_certified(alloc: Global, items: &Items, answer: &Ratio) -> Result<bool
 pub fn is_certified_text(alloc: Global, items: &Items, text: &[u8]) -> Result<bool, NoMemory>
     ensures { IfOk result (λ holds. (holds ≡ true) ↔ IsCertifiedRatio items.now text.now) }
 {
-    // It gives the proof what all items keep.
-    let _ = items.items();
     let answer = match read_ratio(alloc, items, text) {
         Ok(answer) => answer,
         Err(AnswerBad::NotText) => return Ok(false),

@@ -1,7 +1,7 @@
 // The text of an answer: writing, and reading back.
-ghost use Rattle.std.specs.Prelude.{◌≡◌, ◌≢◌, IfOk, Err, false};
+ghost use Rattle.std.specs.Prelude.{◌≡◌, false};
 ghost use Rattle.pf_io.specs.Printing.{Adds, is_spent};
-ghost use Rattle.pf_closure.specs.Certificate.{RatioAnswer};
+ghost use Rattle.pf_format.specs.Format.{ReadsWhole};
 ghost use Rattle.pf_closure.specs.Text.{ratio_text};
 ghost use Rattle.pf_closure.specs.Right.{IsRatioShape};
 
@@ -18,20 +18,16 @@ pub fn write_ratio<K: Sink>(out: &mut Printer<'_, K>, answer: &Ratio) -> Result<
     requires { is_spent out.old ≡ false }
     ensures { Adds out.old out.new (ratio_text answer.now) result }
 {
-    let chosen = answer.chosen().get();
-    let routing = answer.routing().get();
-    write_answer(out, b"closure", b"r", answer.ratio(), chosen, routing)
+    write_answer(out, b"closure", b"r", answer.parts())
 }
 
 /// The answer of the right shape for the items whose text these bytes are: there is at most one. Numbers and words have one
 /// spelling there, and no line is passed over. `NotText` comes exactly where there is no such answer.
 pub fn read_ratio(alloc: Global, items: &Items, text: &[u8]) -> Result<Ratio, AnswerBad>
-    ensures shape { IfOk result (IsRatioShape items.now) }
-    ensures text { IfOk result (λ answer. text.now ≡ ratio_text answer) }
-    ensures refused { result ≡ Err AnswerBad.NotText → (answer : RatioAnswer) → IsRatioShape items.now answer → text.now ≢ ratio_text answer }
+    ensures { ReadsWhole ratio_text (IsRatioShape items.now) text.now result }
 {
     let count = items.items() as usize;
     let width = items.needs() as usize;
-    let answer = read_answer(alloc, b"closure", b"r", count, width, text)?;
-    Ok(Ratio::new(answer.ratio, answer.chosen, answer.numbers))
+    let parts = read_answer(alloc, b"closure", b"r", count, width, text)?;
+    Ok(Ratio::of_parts(parts))
 }

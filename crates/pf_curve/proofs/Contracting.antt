@@ -1,31 +1,46 @@
 -- The smallest least cut between two others, through the part of the network between them.
-use Rattle.std.proofs.Common.{◌≡◌, List, Bool, sym, subst}
+use Rattle.std.proofs.Common.{◌≡◌, List, Bool, arith, sym, subst}
+use Rattle.std.specs.Prelude.{◌+ℤ◌, ◌*ℤ◌, pos}
+use Rattle.std.proofs.lemmas.Int.{ints}
 use Rattle.pf_model.specs.declared.Sense.TheVariants.{Rising}
 use Rattle.pf_model.specs.Fraction.{Fraction, IsParameter, IsAtMost}
 use Rattle.pf_model.specs.Line.{AffineLine}
-use Rattle.pf_model.specs.Cut.{IsSmallestLeast}
+use Rattle.pf_model.specs.Cut.{IsSmallestLeast, leaves, capacity}
 use Rattle.pf_model.specs.Network.{Network, IsInInterval, IsNetworkCut, network_at}
 use Rattle.pf_model.proofs.Certificate.{at_most_trans}
 use Rattle.pf_net.specs.Limits.{IsBuilt}
 use Rattle.pf_piece.specs.Piece.{Between, AreNested, IsLift, piece_of, core_of}
 use Rattle.pf_piece.specs.Laws.{AreEndsAt}
-use Rattle.pf_piece.proofs.Smallest.{ends_are_nested, smallest_lifts, core_has_smallest}
+use Rattle.pf_piece.specs.Cores.{IsCoreOf}
+use Rattle.pf_piece.proofs.Smallest.{ends_are_nested, smallest_lifts, smallest_here, core_has_smallest}
 use Rattle.pf_curve.specs.Cuts.{IsCutFound, IsServed}
 
 abbrev pub whole : Network → List Bool → List Bool → Between
 whole net small large = record { net = net; small = small; large = large }
 
 -- the core has the network's interval
-pub inside_core : (part : Between) (core : Network) (x : Fraction) → core ≡ core_of part → IsInInterval part.net x → IsInInterval core x
-inside_core part core x e h =
-    let P : Network → Type 0 = λ net. IsInInterval net x in
-    subst P (sym e) (record { parameter = h.parameter; low = h.low; high = h.high })
+pub inside_core : (part : Between) (core : Network) (x : Fraction) → IsCoreOf part core → IsInInterval part.net x → IsInInterval core x
+inside_core part core x c h =
+    let P : Fraction → Type 0 = λ low. IsAtMost low x in
+    let Q : Fraction → Type 0 = λ high. IsAtMost x high in
+    record { parameter = h.parameter; low = subst P (sym c.low) h.low; high = subst Q (sym c.high) h.high }
 
-pub found_in : (part : Between) (core : Network) (x : Fraction) (side : List Bool) → core ≡ core_of part → IsSmallestLeast (network_at core x) side →
+-- whatever the order of its arcs, each cut has the same capacity
+same_capacity : (part : Between) (core : Network) (x : Fraction) (side : List Bool) → IsCoreOf part core →
+    capacity (network_at core x) side ≡ capacity (network_at (core_of part) x) side
+same_capacity part core x side c = c.sums (leaves side) (λ a b. (a *ℤ x.q) +ℤ (b *ℤ x.p))
+
+pub found_in : (part : Between) (core : Network) (x : Fraction) (side : List Bool) → IsCoreOf part core → IsSmallestLeast (network_at core x) side →
     IsSmallestLeast (network_at (piece_of part) x) side
-found_in part core x side e h =
-    let P : Network → Type 0 = λ net. IsSmallestLeast (network_at net x) side in
-    core_has_smallest part x side (subst P e h)
+found_in part core x side c s =
+    core_has_smallest part x side
+    (smallest_here (network_at (core_of part) x) (network_at core x) (pos 0) side
+    (record {
+      nodes = sym c.nodes;
+      source = sym c.source;
+      sink = sym c.sink;
+      by = λ cut k. let same = same_capacity part core x cut c in omega (arith, ints, same);
+    }) s)
 
 pub cut_of : (net : Network) (x : Fraction) (side : List Bool) → IsSmallestLeast (network_at net x) side → IsNetworkCut net side
 cut_of net x side s =

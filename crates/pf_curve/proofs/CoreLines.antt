@@ -14,6 +14,7 @@ use Rattle.pf_model.proofs.Affine.{no_arc}
 use Rattle.pf_net.specs.Limits.{IsBuilt}
 use Rattle.pf_piece.specs.Piece.{Between, AreNested, IsLift, place, piece_of, core_of}
 use Rattle.pf_piece.specs.Laws.{AreEndsAt}
+use Rattle.pf_piece.specs.Cores.{IsCoreOf}
 use Rattle.pf_piece.proofs.Places.{place_in, place_out, place_inner}
 use Rattle.pf_piece.proofs.Lifts.{core_lists, line_lifts}
 use Rattle.pf_piece.proofs.Smallest.{ends_are_nested}
@@ -73,17 +74,22 @@ core_more part n side a cut h =
     omega (arith, ints, mine, theirs, h)
 
 -- what was found in the core
-pub chosen_here : (part : Between) (core : Network) (x : Fraction) (side : List Bool) (a b : ℤ) → core ≡ core_of part → IsSmallestLeast (network_at core x) side →
+pub chosen_here : (part : Between) (core : Network) (x : Fraction) (side : List Bool) (a b : ℤ) → IsCoreOf part core → IsSmallestLeast (network_at core x) side →
     cut_a core side ≡ cut_a core (source_alone core.nodes) +ℤ a → cut_b core side ≡ cut_b core (source_alone core.nodes) +ℤ b → IsChosen part x side a b
-chosen_here part core x side a b e s f g =
-    let smallest = found_in part core x side e s in
+chosen_here part core x side a b c s f g =
+    let smallest = found_in part core x side c s in
     let cut = cut_of (piece_of part) x side smallest in
-    let P : Network → Type 0 = λ net. cut_a net side ≡ cut_a net (source_alone net.nodes) +ℤ a in
-    let Q : Network → Type 0 = λ net. cut_b net side ≡ cut_b net (source_alone net.nodes) +ℤ b in
+    let alone = source_alone core.nodes in
+    let here_a : cut_a core side ≡ cut_a (core_of part) side = c.sums (leaves side) (λ y z. y) in
+    let here_b : cut_b core side ≡ cut_b (core_of part) side = c.sums (leaves side) (λ y z. z) in
+    let alone_a : cut_a core alone ≡ cut_a (core_of part) alone = c.sums (leaves alone) (λ y z. y) in
+    let alone_b : cut_b core alone ≡ cut_b (core_of part) alone = c.sums (leaves alone) (λ y z. z) in
+    let nodes_a = ap (λ n. cut_a (core_of part) (source_alone n)) c.nodes in
+    let nodes_b = ap (λ n. cut_b (core_of part) (source_alone n)) c.nodes in
     record {
       smallest = smallest;
-      a_is = core_more part (λ arc. arc.a) side a cut (subst P e f);
-      b_is = core_more part (λ arc. arc.b) side b cut (subst Q e g);
+      a_is = core_more part (λ arc. arc.a) side a cut (sym here_a ∙ f ∙ ap (λ y. y +ℤ a) (alone_a ∙ nodes_a));
+      b_is = core_more part (λ arc. arc.b) side b cut (sym here_b ∙ g ∙ ap (λ y. y +ℤ b) (alone_b ∙ nodes_b));
     }
 
 -- sums of small numbers

@@ -11,7 +11,7 @@ use crate::family::Cut;
 use crate::finder::Finder;
 use pf_frame::NoMemory;
 use pf_net::Net;
-use pf_piece::Piece;
+use pf_piece::Core;
 use pf_rat::{Line, Rat};
 use std::alloc::Global;
 
@@ -67,61 +67,56 @@ fn write_core(core: &Net, finder: &mut Finder<'_>, at: &Rat, side: &mut [bool]) 
     (line.a() - alone.a(), line.b() - alone.b())
 }
 
-// The smallest least cut of the piece at a parameter of the interval.
-fn find_in(alloc: Global, piece: &Piece<'_>, at: &Rat) -> Result<Chosen, NoMemory>
-    requires { IsInInterval piece.now.net at.now }
-    ensures { IfOk result (λ found. IsChosen piece.now at.now found.side.items found.a found.b) }
+// The smallest least cut of the core at a parameter of the interval.
+fn find_in(alloc: Global, core: &Core<'_>, at: &Rat) -> Result<Chosen, NoMemory>
+    requires { IsInInterval core.now.net at.now }
+    ensures { IfOk result (λ found. IsChosen core.now at.now found.side.items found.a found.b) }
 {
-    let core = piece.core(alloc)?;
-    let mut finder = Finder::make(alloc, &core)?;
-    let mut side = vec![in alloc; false; piece.node_count() as usize]?;
-    let (a, b) = write_core(&core, &mut finder, at, &mut side);
+    let inner = core.net();
+    let nodes = inner.frame().nodes() as usize;
+    let mut finder = Finder::make(alloc, inner)?;
+    let mut side = vec![in alloc; false; nodes]?;
+    let (a, b) = write_core(inner, &mut finder, at, &mut side);
     Ok(Chosen { side, a, b })
 }
 
-// Writes the lift of the piece's smallest least cut, and tells its line, where `line` is that of the small side. `side` is indexed by the
+// Writes the lift of the core's smallest least cut, and tells its line, where `line` is that of the small side. `side` is indexed by the
 // nodes of the network.
-fn write_lifted(
-    piece: &Piece<'_>,
-    line: &Line,
-    chosen: &Chosen,
-    at: &Rat,
-    side: &mut [bool],
-) -> Line
-    requires rising { piece.now.net.sense ≡ Rising }
-    requires ends { AreEndsAt piece.now at.now }
-    requires line { line.now ≡ line_of piece.now.net piece.now.small }
-    requires chosen { IsChosen piece.now at.now chosen.now.side.items chosen.now.a chosen.now.b }
-    requires nodes { length side.old ≡ piece.now.net.nodes }
-    ensures smallest { IsSmallestLeast (network_at piece.now.net at.now) side.new }
-    ensures line { result ≡ line_of piece.now.net side.new }
+fn write_lifted(core: &Core<'_>, line: &Line, chosen: &Chosen, at: &Rat, side: &mut [bool]) -> Line
+    requires rising { core.now.net.sense ≡ Rising }
+    requires ends { AreEndsAt core.now at.now }
+    requires line { line.now ≡ line_of core.now.net core.now.small }
+    requires chosen { IsChosen core.now at.now chosen.now.side.items chosen.now.a chosen.now.b }
+    requires nodes { length side.old ≡ core.now.net.nodes }
+    ensures smallest { IsSmallestLeast (network_at core.now.net at.now) side.new }
+    ensures line { result ≡ line_of core.now.net side.new }
 {
     // Gives the proof what every network keeps.
-    let _ = piece.net().frame().nodes();
-    piece.lift(chosen.side.as_slice(), side);
+    let _ = core.whole().frame().nodes();
+    core.lift(chosen.side.as_slice(), side);
     Line::new(line.a() + chosen.a, line.b() + chosen.b)
 }
 
-// The lift of the piece's smallest least cut, where `line` is that of the small side.
+// The lift of the core's smallest least cut, where `line` is that of the small side.
 fn lifted(
     alloc: Global,
-    piece: &Piece<'_>,
+    core: &Core<'_>,
     line: &Line,
     chosen: &Chosen,
     at: &Rat,
 ) -> Result<Cut, NoMemory>
-    requires rising { piece.now.net.sense ≡ Rising }
-    requires inside { IsInInterval piece.now.net at.now }
-    requires ends { AreEndsAt piece.now at.now }
-    requires line { line.now ≡ line_of piece.now.net piece.now.small }
-    requires chosen { IsChosen piece.now at.now chosen.now.side.items chosen.now.a chosen.now.b }
-    ensures found { IfOk result (λ m. IsCutFound piece.now.net m.at m.line m.side.items) }
+    requires rising { core.now.net.sense ≡ Rising }
+    requires inside { IsInInterval core.now.net at.now }
+    requires ends { AreEndsAt core.now at.now }
+    requires line { line.now ≡ line_of core.now.net core.now.small }
+    requires chosen { IsChosen core.now at.now chosen.now.side.items chosen.now.a chosen.now.b }
+    ensures found { IfOk result (λ m. IsCutFound core.now.net m.at m.line m.side.items) }
     ensures parameter { IfOk result (λ m. m.at ≡ at.now) }
-    ensures least { IfOk result (λ m. IsLeastAt (IsLineOfCut piece.now.net) m.line at.now) }
+    ensures least { IfOk result (λ m. IsLeastAt (IsLineOfCut core.now.net) m.line at.now) }
 {
-    let nodes = piece.net().frame().nodes() as usize;
+    let nodes = core.whole().frame().nodes() as usize;
     let mut side = vec![in alloc; false; nodes]?;
-    let line = write_lifted(piece, line, chosen, at, &mut side);
+    let line = write_lifted(core, line, chosen, at, &mut side);
     Ok(Cut {
         at: *at,
         line,
@@ -150,8 +145,8 @@ pub fn find_between(
 {
     // Gives the proof what every network keeps.
     let _ = net.frame().nodes();
-    let piece = Piece::between(alloc, net, small, large)?;
-    opened.add(piece.node_count());
-    let chosen = find_in(alloc, &piece, at)?;
-    lifted(alloc, &piece, line, &chosen, at)
+    let core = Core::between(alloc, net, small, large)?;
+    opened.add(core.net().frame().nodes());
+    let chosen = find_in(alloc, &core, at)?;
+    lifted(alloc, &core, line, &chosen, at)
 }

@@ -38,7 +38,7 @@ OneDensityInLowestTerms = (g : WeightedGraph) (x y : Fraction) (set other : List
 
 -- answers of the right shape with equal texts are equal
 abbrev pub DenseFromText : Type 0
-DenseFromText = (g : WeightedGraph) (a b : DenseAnswer) → IsWeightedGraph g → IsDenseShape g a → IsDenseShape g b → dense_text a ≡ dense_text b → a ≡ b
+DenseFromText = (g : WeightedGraph) (a b : DenseAnswer) → IsDenseShape g a → IsDenseShape g b → dense_text a ≡ dense_text b → a ≡ b
 
 -- the verdict is `yes` for exactly the texts of right answers
 abbrev pub CertifiedIsRight : Type 0

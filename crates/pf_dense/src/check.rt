@@ -64,8 +64,6 @@ pub fn is_certified(alloc: Global, graph: &Graph, answer: &Dense) -> Result<bool
 pub fn is_certified_dense_text(alloc: Global, graph: &Graph, text: &[u8]) -> Result<bool, NoMemory>
     ensures { IfOk result (λ holds. (holds ≡ true) ↔ IsCertifiedDense graph.now text.now) }
 {
-    // Gives the proof the limits of the graph.
-    let _ = graph.vertices();
     let answer = match read_dense(alloc, graph, text) {
         Ok(answer) => answer,
         Err(AnswerBad::NotText) => return Ok(false),

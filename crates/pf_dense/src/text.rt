@@ -1,7 +1,8 @@
 // The text of an answer: writing, and reading back.
-ghost use Rattle.std.specs.Prelude.{◌≡◌, ◌≢◌, IfOk, Err, false};
+ghost use Rattle.std.specs.Prelude.{◌≡◌, false};
 ghost use Rattle.pf_io.specs.Printing.{Adds, is_spent};
-ghost use Rattle.pf_dense.specs.Answer.{DenseAnswer, IsDenseShape};
+ghost use Rattle.pf_format.specs.Format.{ReadsWhole};
+ghost use Rattle.pf_dense.specs.Answer.{IsDenseShape};
 ghost use Rattle.pf_dense.specs.Text.{dense_text};
 
 use crate::dense::Dense;
@@ -17,20 +18,16 @@ pub fn write_dense<K: Sink>(out: &mut Printer<'_, K>, answer: &Dense) -> Result<
     requires { is_spent out.old ≡ false }
     ensures { Adds out.old out.new (dense_text answer.now) result }
 {
-    let chosen = answer.chosen().get();
-    let charges = answer.charges().get();
-    write_answer(out, b"densest", b"d", answer.density(), chosen, charges)
+    write_answer(out, b"densest", b"d", answer.parts())
 }
 
 /// The answer of the right shape for the graph whose text these bytes are: there is at most one. Numbers and words have one
 /// spelling there, and no line is passed over. `NotText` comes exactly where there is no such answer.
 pub fn read_dense(alloc: Global, graph: &Graph, text: &[u8]) -> Result<Dense, AnswerBad>
-    ensures shape { IfOk result (IsDenseShape graph.now) }
-    ensures text { IfOk result (λ answer. text.now ≡ dense_text answer) }
-    ensures refused { result ≡ Err AnswerBad.NotText → (answer : DenseAnswer) → IsDenseShape graph.now answer → text.now ≢ dense_text answer }
+    ensures { ReadsWhole dense_text (IsDenseShape graph.now) text.now result }
 {
     let count = graph.vertices() as usize;
     let width = graph.edges() as usize;
-    let answer = read_answer(alloc, b"densest", b"d", count, width, text)?;
-    Ok(Dense::new(answer.ratio, answer.chosen, answer.numbers))
+    let parts = read_answer(alloc, b"densest", b"d", count, width, text)?;
+    Ok(Dense::of_parts(parts))
 }

@@ -1,21 +1,21 @@
 -- Formats as values of proofs, and whole texts.
-use Rattle.std.proofs.Common.{◌≡◌, ℕ, List, [], ◌++◌, Result, Ok, Err, sym, ap, subst, ◌∙◌}
-use Rattle.std.specs.Prelude.{ℤ, IsErrAnd}
+use Rattle.std.proofs.Common.{◌≡◌, ℕ, List, [], ◌++◌, length, Result, Ok, Err, sym, ap, ◌∙◌}
+use Rattle.std.specs.Prelude.{◌↔◌, ℤ, Bool, IsErrAnd}
 use Rattle.std.proofs.lemmas.List.{append-nil}
 use Rattle.pf_model.specs.Fraction.{Fraction}
 use Rattle.pf_model.specs.Answer.{IsFractionShape}
-use Rattle.pf_text.specs.Spelling.{row_line, fraction_line, table_text}
+use Rattle.pf_text.specs.Spelling.{row_line, fraction_line, side_line, table_text}
 use Rattle.pf_lines.specs.declared.errors.AnswerBad.{AnswerBad}
 use Rattle.pf_lines.specs.declared.errors.AnswerBad.TheVariants.{NotText}
-use Rattle.pf_lines.specs.Taking.{IsExcused, IsFlowRow}
+use Rattle.pf_lines.specs.Taking.{IsFlowRow}
 use Rattle.pf_io.specs.Printing.{Adds}
 use Rattle.pf_io.specs.declared.device.Failed.{Failed}
 use Rattle.pf_io.specs.declared.device.Sink.{Ghosts}
 use Rattle.pf_io.specs.declared.printer.Printer.{Printer}
 use Rattle.pf_format.specs.Format.{Reads, ReadsWhole, HasOneReading}
-use Rattle.pf_format.specs.Shapes.{IsWord, AreFlowRows}
+use Rattle.pf_format.specs.Shapes.{AreFlowRows}
 use Rattle.pf_format.specs.PairLaws.{pair_one, marked_one, ended_one}
-use Rattle.pf_format.specs.LineLaws.{fraction_row_one, flow_row_one, flow_rows_one}
+use Rattle.pf_format.specs.LineLaws.{fraction_row_one, side_row_one, flow_row_one, flow_rows_one}
 
 -- ---- formats made of formats
 
@@ -33,14 +33,17 @@ marked word f = record { text = λ x. word ++ f.text x; Is = f.Is; one = marked_
 abbrev pub ended : {X : Type 0} → Spelling X → List ℕ → Spelling X
 ended f word = record { text = λ x. f.text x ++ word; Is = f.Is; one = ended_one word f.text f.Is f.one }
 
-abbrev pub fraction_row : (word : List ℕ) → IsWord word → Spelling Fraction
-fraction_row word w = record { text = λ at. fraction_line word [] at []; Is = IsFractionShape; one = fraction_row_one word [] w }
+abbrev pub fraction_row : List ℕ → Spelling Fraction
+fraction_row word = record { text = λ at. fraction_line word [] at []; Is = IsFractionShape; one = fraction_row_one word [] }
 
-abbrev pub flow_row : (word : List ℕ) → IsWord word → ℕ → Spelling (List ℤ)
-flow_row word w width = record { text = row_line word []; Is = IsFlowRow width; one = flow_row_one word [] width w }
+abbrev pub side_row : List ℕ → ℕ → Spelling (List Bool)
+side_row word nodes = record { text = side_line word [] []; Is = λ side. length side ≡ nodes; one = side_row_one word [] nodes }
 
-abbrev pub flow_rows : (word : List ℕ) → IsWord word → (first count width : ℕ) → Spelling (List (List ℤ))
-flow_rows word w first count width = record { text = table_text word first; Is = AreFlowRows count width; one = flow_rows_one word first width count w }
+abbrev pub flow_row : List ℕ → ℕ → Spelling (List ℤ)
+flow_row word width = record { text = row_line word []; Is = IsFlowRow width; one = flow_row_one word [] width }
+
+abbrev pub flow_rows : (word : List ℕ) (first count width : ℕ) → Spelling (List (List ℤ))
+flow_rows word first count width = record { text = table_text word first; Is = AreFlowRows count width; one = flow_rows_one word first width count }
 
 -- ---- whole texts
 
@@ -63,17 +66,22 @@ whole_refused {X} {text} {Is} {old} {left} {whole} {bad} (Err b) begun r exit = 
 }
 
 -- something is left after the value
-pub whole_longer : {X : Type 0} {text : X → List ℕ} {Is : X → Type 0} {old left whole : List ℕ} {x : X} (bad : AnswerBad) (result : Result X AnswerBad) → HasOneReading text Is → old ≡ whole
-    → Reads text Is old left (Ok x) → (left ≡ [] → IsExcused bad) → IsErrAnd result (λ b. b ≡ bad) → ReadsWhole text Is whole result
-whole_longer bad (Ok y) one begun r found exit = absurd exit
-whole_longer {X} {text} {Is} {old} {left} {whole} {x} bad (Err b) one begun r found exit = record {
+pub whole_longer : {X : Type 0} {text : X → List ℕ} {Is : X → Type 0} {old left whole : List ℕ} {x : X} (result : Result X AnswerBad) → HasOneReading text Is → old ≡ whole
+    → Reads text Is old left (Ok x) → (left ≡ [] → ⊥) → IsErrAnd result (λ b. b ≡ NotText) → ReadsWhole text Is whole result
+whole_longer (Ok y) one begun r found exit = absurd exit
+whole_longer {X} {text} {Is} {old} {left} {whole} {x} (Err b) one begun r found exit = record {
   shape = tt;
   spelled = tt;
   refused = λ e y is there.
-      let told : b ≡ NotText = cc in
       let same = one x y left [] r.shape is (sym r.taken ∙ begun ∙ there ∙ sym (append-nil (text y))) in
-      subst IsExcused (sym exit ∙ told) (found same.left);
+      absurd (found same.left);
 }
+
+-- the text and the shape, said in another way
+pub whole_as : {X : Type 0} {text spelling : X → List ℕ} {Is Fits : X → Type 0} {whole : List ℕ} (result : Result X AnswerBad) → ReadsWhole spelling Fits whole result → ((x : X) → spelling x ≡ text x) → ((x : X) → Fits x ↔ Is x)
+    → ReadsWhole text Is whole result
+whole_as (Ok x) r same fits = record { shape = (fits x).0 r.shape; spelled = r.spelled ∙ same x; refused = λ e. absurd cc }
+whole_as (Err bad) r same fits = record { shape = tt; spelled = tt; refused = λ e x is there. r.refused e x ((fits x).1 is) (there ∙ sym (same x)) }
 
 -- values whose texts are equal are equal
 pub same_value : {X : Type 0} (text : X → List ℕ) (Is : X → Type 0) → HasOneReading text Is → (x y : X) → Is x → Is y → text x ≡ text y → x ≡ y

@@ -10,13 +10,12 @@ use Rattle.pf_model.specs.Answer.{IsWithinSize}
 use Rattle.pf_text.specs.Spelling.{row_line}
 use Rattle.pf_text.proofs.SameParts.{same_fraction}
 use Rattle.pf_text.proofs.NumbersLemmas.{one_number}
-use Rattle.pf_text.proofs.TextLines.{same_line, decimal_plain, numbers_plain}
+use Rattle.pf_text.proofs.TextLines.{decimal_plain, numbers_plain}
 use Rattle.pf_lines.specs.Taking.{IsValued, valued_line}
 use Rattle.pf_lines.specs.declared.taking.Valued.{Valued}
 use Rattle.pf_lines.proofs.ItemsTaken.{Items}
 use Rattle.pf_format.specs.Format.{IsSame, HasOneReading}
-use Rattle.pf_format.specs.Shapes.{IsWord}
-use Rattle.pf_format.specs.LineLaws.{plain_word, line_one}
+use Rattle.pf_format.specs.LineLaws.{same_behind, line_one}
 
 -- ---- numbers, and values at fractions
 
@@ -27,8 +26,8 @@ long_digits x size =
     omega (arith, ints, low, high)
 
 -- a line of one number
-pub number_row_one : (word indices : List ℕ) → IsWord word → HasOneReading (λ x. row_line word indices (x ∷ [])) (IsWithinSize (2 ^ 127))
-number_row_one word indices w = line_one word indices (λ x. map signed_decimal (x ∷ [])) (IsWithinSize (2 ^ 127)) w (λ x. numbers_plain (x ∷ [])) (λ x y a b e.
+pub number_row_one : (word indices : List ℕ) → HasOneReading (λ x. row_line word indices (x ∷ [])) (IsWithinSize (2 ^ 127))
+number_row_one word indices = line_one word indices (λ x. map signed_decimal (x ∷ [])) (IsWithinSize (2 ^ 127)) (λ x. numbers_plain (x ∷ [])) (λ x y a b e.
     let same : signed_decimal x ≡ signed_decimal y = cc in
     one_number x y (long_digits x a) (long_digits y b) same)
 
@@ -51,14 +50,13 @@ same_fields x y a b e =
     let v : signed_decimal x.value ≡ signed_decimal y.value = cc in
     same_valued x.at y.at x.value y.value (same_fraction x.at y.at a.at b.at p q) (one_number x.value y.value (value_digits x.value a.value) (value_digits y.value b.value) v)
 
-pub valued_row_one : (word indices : List ℕ) → IsWord word → HasOneReading (valued_line word indices) IsValued
-valued_row_one word indices w =
-    line_one word indices (λ (x : Valued). map signed_decimal (x.at.p ∷ x.at.q ∷ x.value ∷ [])) IsValued w (λ x. numbers_plain (x.at.p ∷ x.at.q ∷ x.value ∷ [])) same_fields
+pub valued_row_one : (word indices : List ℕ) → HasOneReading (valued_line word indices) IsValued
+valued_row_one word indices =
+    line_one word indices (λ (x : Valued). map signed_decimal (x.at.p ∷ x.at.q ∷ x.value ∷ [])) IsValued (λ x. numbers_plain (x.at.p ∷ x.at.q ∷ x.value ∷ [])) same_fields
 
 -- what stands behind a line of a count
-pub count_left : (word : List ℕ) (m n : ℕ) (rest later : List ℕ) → IsWord word → row_line word (m ∷ []) [] ++ rest ≡ row_line word (n ∷ []) [] ++ later → rest ≡ later
-count_left word m n rest later w e =
-    (same_line (word ∷ decimal m ∷ []) (word ∷ decimal n ∷ []) rest later (plain_word word w, (decimal_plain m, tt)) (plain_word word w, (decimal_plain n, tt)) e).same_rest
+pub count_left : (word : List ℕ) (m n : ℕ) (rest later : List ℕ) → row_line word (m ∷ []) [] ++ rest ≡ row_line word (n ∷ []) [] ++ later → rest ≡ later
+count_left word m n rest later e = (same_behind word (decimal m ∷ []) (decimal n ∷ []) rest later (decimal_plain m, tt) (decimal_plain n, tt) e).left
 
 -- ---- items
 

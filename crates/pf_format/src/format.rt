@@ -62,7 +62,8 @@ impl<'a> Format for Word<'a> {
     }
 
     fn take(&self, _alloc: Global, source: &mut Exact<'_>) -> Result<(), AnswerBad> {
-        take_word(source, self.bytes)
+        take_word(source, self.bytes)?;
+        Ok(())
     }
 }
 

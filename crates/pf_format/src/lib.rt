@@ -10,4 +10,4 @@ mod rows;
 
 pub use derived::{Derive, Derived};
 pub use format::{Ended, Format, Marked, Then, Word, read_whole};
-pub use rows::{FlowRow, FlowRows, FractionRow};
+pub use rows::{FlowRow, FlowRows, FractionRow, SideRow};

@@ -1,15 +1,15 @@
 // Lines of numbers.
-ghost use Rattle.std.specs.Prelude.{[], ◌≤◌};
+ghost use Rattle.std.specs.Prelude.{◌≡◌, ◌≤◌, [], length};
 ghost use Rattle.pf_model.specs.Answer.{IsFractionShape};
 ghost use Rattle.pf_lines.specs.Taking.{IsFlowRow};
-ghost use Rattle.pf_text.specs.Spelling.{fraction_line, row_line, table_text};
-ghost use Rattle.pf_format.specs.Shapes.{IsWord, AreFlowRows};
-ghost use Rattle.pf_format.specs.LineLaws.{fraction_row_one, flow_row_one, flow_rows_one};
+ghost use Rattle.pf_text.specs.Spelling.{fraction_line, side_line, row_line, table_text};
+ghost use Rattle.pf_format.specs.Shapes.{AreFlowRows};
+ghost use Rattle.pf_format.specs.LineLaws.{fraction_row_one, side_row_one, flow_row_one, flow_rows_one};
 
 use crate::format::Format;
-use pf_frame::{FlowTable, Numbers};
-use pf_io::{Failed, Printer, Sink, print_fraction_row, print_row, print_rows};
-use pf_lines::{AnswerBad, Exact, take_flow_row, take_flow_rows, take_fraction_row};
+use pf_frame::{FlowTable, Numbers, Side};
+use pf_io::{Failed, Printer, Sink, print_fraction_row, print_row, print_rows, print_side_row};
+use pf_lines::{AnswerBad, Exact, take_flow_row, take_flow_rows, take_fraction_row, take_side_row};
 use pf_rat::Rat;
 use std::alloc::Global;
 
@@ -17,7 +17,6 @@ use std::alloc::Global;
 #[derive(Clone, Copy)]
 pub struct FractionRow<'a> {
     pub word: &'a [u8],
-    ghost plain: { IsWord word.now },
 }
 
 impl<'a> Format for FractionRow<'a> {
@@ -27,14 +26,40 @@ impl<'a> Format for FractionRow<'a> {
 
     ghost shape = { λ f. IsFractionShape };
 
-    ghost one = { λ f. fraction_row_one f.word.now [] f.plain };
+    ghost one = { λ f. fraction_row_one f.word.now [] };
 
     fn print<K: Sink>(&self, out: &mut Printer<'_, K>, value: &Rat) -> Result<(), Failed> {
         print_fraction_row(out, self.word, &[], value, &[])
     }
 
     fn take(&self, _alloc: Global, source: &mut Exact<'_>) -> Result<Rat, AnswerBad> {
-        take_fraction_row(source, self.word, &[])
+        let at = take_fraction_row(source, self.word, &[])?;
+        Ok(at)
+    }
+}
+
+/// The line of a side of so many nodes, as `s SIDE`.
+#[derive(Clone, Copy)]
+pub struct SideRow<'a> {
+    pub word: &'a [u8],
+    pub nodes: usize,
+}
+
+impl<'a> Format for SideRow<'a> {
+    type Value = Side;
+
+    ghost text = { λ f. side_line f.word.now [] [] };
+
+    ghost shape = { λ f side. length side ≡ f.nodes };
+
+    ghost one = { λ f. side_row_one f.word.now [] f.nodes };
+
+    fn print<K: Sink>(&self, out: &mut Printer<'_, K>, value: &Side) -> Result<(), Failed> {
+        print_side_row(out, self.word, &[], &[], value.get())
+    }
+
+    fn take(&self, alloc: Global, source: &mut Exact<'_>) -> Result<Side, AnswerBad> {
+        take_side_row(alloc, self.word, &[], self.nodes, source)
     }
 }
 
@@ -43,7 +68,6 @@ impl<'a> Format for FractionRow<'a> {
 pub struct FlowRow<'a> {
     pub word: &'a [u8],
     pub width: usize,
-    ghost plain: { IsWord word.now },
 }
 
 impl<'a> Format for FlowRow<'a> {
@@ -53,7 +77,7 @@ impl<'a> Format for FlowRow<'a> {
 
     ghost shape = { λ f. IsFlowRow f.width };
 
-    ghost one = { λ f. flow_row_one f.word.now [] f.width f.plain };
+    ghost one = { λ f. flow_row_one f.word.now [] f.width };
 
     fn print<K: Sink>(&self, out: &mut Printer<'_, K>, value: &Numbers) -> Result<(), Failed> {
         print_row(out, self.word, &[], value.get())
@@ -71,7 +95,6 @@ pub struct FlowRows<'a> {
     pub first: usize,
     pub width: usize,
     pub count: usize,
-    ghost plain: { IsWord word.now },
     ghost low: { first ≤ 1 },
 }
 
@@ -82,7 +105,7 @@ impl<'a> Format for FlowRows<'a> {
 
     ghost shape = { λ f. AreFlowRows f.count f.width };
 
-    ghost one = { λ f. flow_rows_one f.word.now f.first f.width f.count f.plain };
+    ghost one = { λ f. flow_rows_one f.word.now f.first f.width f.count };
 
     fn print<K: Sink>(&self, out: &mut Printer<'_, K>, value: &FlowTable) -> Result<(), Failed> {
         print_rows(out, self.word, self.first, value)

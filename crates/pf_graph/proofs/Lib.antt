@@ -14,3 +14,4 @@ pub mod WorkedOut
 pub mod TextLaw
 pub mod SlotLemmas
 pub mod LineLemmas
+pub mod LineLabels

@@ -1,10 +1,8 @@
 -- Rows of numbers of a size below 2^104, taken from the front of a text one line after the other.
-use Rattle.std.proofs.Common.{◌≡◌, ℕ, ◌+◌, ◌<◌, ◌^◌, List, [], ◌∷◌, ◌++◌, length, get_or, drop, add-one, Result, Ok, Err, refl, ap, ◌∙◌, arith}
+use Rattle.std.proofs.Common.{◌≡◌, ℕ, ◌+◌, ◌^◌, List, [], ◌∷◌, ◌++◌, length, get_or, Result, Ok, Err, refl, ap, ◌∙◌, arith}
 use Rattle.std.specs.Prelude.{ℤ, pos, negsuc, All, IfOk}
 use Rattle.std.proofs.lemmas.Int.{ints}
-use Rattle.std.proofs.Math.Seq.{drop-cons}
 use Rattle.pf_model.specs.Answer.{IsWithinSize}
-use Rattle.pf_frame.specs.Lending.{row_at}
 use Rattle.pf_text.specs.Spelling.{row_line, table_text}
 use Rattle.pf_lines.specs.declared.errors.AnswerBad.{AnswerBad}
 use Rattle.pf_lines.specs.Taking.{IsBetween, IsRow, IsFlowRow}

@@ -3,8 +3,6 @@ use Rattle.std.proofs.Common.{◌≡◌, ℕ, ◌+◌, ◌<◌, ◌≤◌, List,
 use Rattle.std.specs.Prelude.{All}
 use Rattle.std.proofs.lemmas.List.{append-nil, length-append}
 use Rattle.std.proofs.lemmas.List.Elements.{All-nil, All-head, All-tail, All-push, All-same}
-use Rattle.pf_lines.specs.declared.errors.AnswerBad.{AnswerBad}
-use Rattle.pf_lines.specs.Taking.{IsExcused}
 
 -- A kind of items: the text of some from a place on, that of the item at a place, which values are items, and what may
 -- stand after one, as another item may.
@@ -127,11 +125,11 @@ item_taken K count old now new j got x p low e is found = record {
       record { others = t.later; split = t.split ∙ ap (λ y. (got ++ y ∷ []) ++ t.later) (sym f.0); left = f.1 };
 }
 
--- an item was refused: what refuses it for the text of an item alone refuses the whole
-pub item_refused : {X : Type 0} (K : Items X) (count : ℕ) (old now : List ℕ) (j : ℕ) (got : List X) (bad : AnswerBad) → HasTaken K count old now j got → j < count
-    → ((y : X) (rest : List ℕ) → K.Is y → K.MayFollow rest → now ≡ K.item j y ++ rest → IsExcused bad)
-    → (whole : List X) (rest : List ℕ) → Stand K count old whole rest → IsExcused bad
-item_refused K count old now j got bad p low found whole rest s =
+-- an item was refused: what follows where the text of an item stands there, follows where the whole does
+pub item_refused : {X : Type 0} (K : Items X) (count : ℕ) (old now : List ℕ) (j : ℕ) (got : List X) (P : Type 0) → HasTaken K count old now j got → j < count
+    → ((y : X) (rest : List ℕ) → K.Is y → K.MayFollow rest → now ≡ K.item j y ++ rest → P)
+    → (whole : List X) (rest : List ℕ) → Stand K count old whole rest → P
+item_refused K count old now j got P p low found whole rest s =
     let t = comes K count old now j got p low whole rest s in
     found t.item (K.text (j + 1) t.later ++ rest) t.is t.behind t.left
 

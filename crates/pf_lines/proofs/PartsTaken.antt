@@ -1,8 +1,6 @@
 -- A first piece, and items after it, taken from the front of a text and put into lists: one argument for every loop that does so.
 use Rattle.std.proofs.Common.{◌≡◌, ℕ, ◌+◌, ◌<◌, List, [], ◌∷◌, ◌++◌, length, ap, ◌∙◌}
 use Rattle.std.specs.Prelude.{All}
-use Rattle.pf_lines.specs.declared.errors.AnswerBad.{AnswerBad}
-use Rattle.pf_lines.specs.Taking.{IsExcused}
 use Rattle.pf_lines.proofs.ItemsTaken.{Items, Stand, HasTaken, items_begin, item_taken, item_refused, items_end}
 
 -- The text of a first piece, and which values are first pieces; the items; the lists that a first piece and items make up, and
@@ -66,10 +64,10 @@ module _ {F X O : Type 0} (K : Parts F X O) (count : ℕ) (old now : List ℕ) (
     taken = item_taken K.items count p.behind now new j p.got x p.taken low e is found;
   }
 
-  -- an item was refused: what refuses it for the text of an item alone refuses the whole
-  pub part_refused : (bad : AnswerBad) → j < count → ((y : X) (rest : List ℕ) → K.items.Is y → K.items.MayFollow rest → now ≡ K.items.item j y ++ rest → IsExcused bad)
-      → (first : F) (whole : List X) (rest : List ℕ) → PartsStand K count old first whole rest → IsExcused bad
-  part_refused bad low found first whole rest s = item_refused K.items count p.behind now j p.got bad p.taken low found whole rest (stands first whole rest s)
+  -- an item was refused: what follows where the text of an item stands there, follows where the whole does
+  pub part_refused : (P : Type 0) → j < count → ((y : X) (rest : List ℕ) → K.items.Is y → K.items.MayFollow rest → now ≡ K.items.item j y ++ rest → P)
+      → (first : F) (whole : List X) (rest : List ℕ) → PartsStand K count old first whole rest → P
+  part_refused P low found first whole rest s = item_refused K.items count p.behind now j p.got P p.taken low found whole rest (stands first whole rest s)
 
   -- all were taken
   pub parts_end : j ≡ count → (first : F) (whole : List X) (rest : List ℕ) → PartsStand K count old first whole rest → (o ≡ K.lists first whole) × (now ≡ rest)

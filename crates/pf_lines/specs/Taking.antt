@@ -4,6 +4,7 @@ use Rattle.pf_model.specs.Answer.{IsFractionShape, IsWithinSize}
 use Rattle.pf_text.specs.Numbers.{is_digit}
 use Rattle.pf_text.specs.Spelling.{fraction_line}
 use Rattle.pf_lines.specs.declared.errors.AnswerBad.{AnswerBad}
+use Rattle.pf_lines.specs.declared.errors.NotThere.{NotThere}
 use Rattle.pf_lines.specs.declared.errors.AnswerBad.TheVariants.{NotText, NoMemory}
 use Rattle.pf_lines.specs.declared.taking.Valued.{Valued}
 
@@ -23,10 +24,15 @@ abbrev pub Takes : {X : Type 0} → X → List ℕ → Result X AnswerBad → Li
 Takes x rest (Ok y) left = (y ≡ x) × (left ≡ rest)
 Takes x rest (Err bad) left = IsExcused bad
 
+-- the same of a call that takes no memory: then the value is found
+abbrev pub Finds : {X : Type 0} → X → List ℕ → Result X NotThere → List ℕ → Type 0
+Finds x rest (Ok y) left = (y ≡ x) × (left ≡ rest)
+Finds x rest (Err bad) left = ⊥
+
 -- the same where nothing is found but that the piece is there
-abbrev pub Passes : List ℕ → Result (Unit {0}) AnswerBad → List ℕ → Type 0
+abbrev pub Passes : List ℕ → Result (Unit {0}) NotThere → List ℕ → Type 0
 Passes rest (Ok y) left = left ≡ rest
-Passes rest (Err bad) left = IsExcused bad
+Passes rest (Err bad) left = ⊥
 
 -- the number lies from the one to the other
 pub record IsBetween (min max number : ℤ) : Type 0 where

@@ -48,6 +48,11 @@ impl<T: Drop> From<AllocFailed<T>> for ReadBad {
     }
 }
 
+/// The piece that was to be taken does not stand in front of the text. Calls that take no memory can fail in no other way.
+#[derive(Clone, Copy, Debug, PartialEq, Eq, Error)]
+#[error("not there")]
+pub struct NotThere;
+
 /// Why a reader of answers gives none.
 #[derive(Clone, Copy, Debug, PartialEq, Eq, Error)]
 pub enum AnswerBad {
@@ -86,6 +91,16 @@ impl<T: Drop> From<AllocFailed<T>> for AnswerBad {
 
     fn from(_error: AllocFailed<T>) -> AnswerBad {
         AnswerBad::NoMemory
+    }
+}
+
+impl From<NotThere> for AnswerBad {
+    ghost use Rattle.pf_lines.specs.declared.errors.AnswerBad.TheVariants.{NotText};
+
+    ghost from_gives = { λ _ bad. bad ≡ NotText };
+
+    fn from(_error: NotThere) -> AnswerBad {
+        AnswerBad::NotText
     }
 }
 

@@ -4,41 +4,41 @@ ghost use Rattle.std.specs.Fmt.{decimal, signed_decimal};
 ghost use Rattle.pf_model.specs.Fraction.{Fraction, IsBoundedFraction, IsLowest};
 ghost use Rattle.pf_model.specs.Answer.{IsFractionShape, IsWithinSize};
 ghost use Rattle.pf_text.specs.Spelling.{side_text, spaced, rest_of_line, fraction_text, numbers_text, head_text, row_line, table_text, fraction_line, side_line, label_line};
-ghost use Rattle.pf_lines.specs.Taking.{Passes, Stops, Takes, IsExcused, IsRow, IsFlowRow, AreLabels, IsValued, valued_line};
+ghost use Rattle.pf_lines.specs.Taking.{Finds, Passes, Stops, Takes, IsExcused, IsRow, IsFlowRow, AreLabels, IsValued, valued_line};
 ghost use Rattle.pf_lines.specs.declared.taking.Valued.{Valued};
 
-use crate::errors::AnswerBad;
+use crate::errors::{AnswerBad, NotThere};
 use crate::exact::Exact;
 use pf_frame::{FlowTable, Numbers, Side};
 use pf_rat::Rat;
 use std::alloc::Global;
 
 /// The word.
-pub fn take_word(text: &mut Exact<'_>, word: &[u8]) -> Result<(), AnswerBad>
+pub fn take_word(text: &mut Exact<'_>, word: &[u8]) -> Result<(), NotThere>
     ensures taken { IfOk result (λ _. text.old ≡ word.now ++ text.new) }
     ensures found { (rest : List ℕ) → text.old ≡ word.now ++ rest → Passes rest result text.new }
 {
     if text.word(word) {
         return Ok(());
     }
-    Err(AnswerBad::NotText)
+    Err(NotThere)
 }
 
 /// A space, and a number from `min` to `max`.
-pub fn take_number(text: &mut Exact<'_>, min: i128, max: i128) -> Result<i128, AnswerBad>
+pub fn take_number(text: &mut Exact<'_>, min: i128, max: i128) -> Result<i128, NotThere>
     ensures taken { IfOk result (λ n. text.old ≡ (32 ∷ signed_decimal n) ++ text.new) }
     ensures range { IfOk result (λ n. (min ≤ℤ n) × (n ≤ℤ max)) }
-    ensures found { (n : ℤ) (rest : List ℕ) → min ≤ℤ n → n ≤ℤ max → Stops rest → text.old ≡ (32 ∷ signed_decimal n) ++ rest → Takes n rest result text.new }
+    ensures found { (n : ℤ) (rest : List ℕ) → min ≤ℤ n → n ≤ℤ max → Stops rest → text.old ≡ (32 ∷ signed_decimal n) ++ rest → Finds n rest result text.new }
 {
     take_word(text, b" ")?;
     match text.num(min, max) {
         Some(number) => Ok(number),
-        None => Err(AnswerBad::NotText),
+        None => Err(NotThere),
     }
 }
 
 /// A space, and this number.
-pub fn take_index(text: &mut Exact<'_>, index: usize) -> Result<(), AnswerBad>
+pub fn take_index(text: &mut Exact<'_>, index: usize) -> Result<(), NotThere>
     ensures taken { IfOk result (λ _. text.old ≡ (32 ∷ decimal index) ++ text.new) }
     ensures found { (rest : List ℕ) → Stops rest → text.old ≡ (32 ∷ decimal index) ++ rest → Passes rest result text.new }
 {
@@ -64,23 +64,23 @@ fn lowest_of(p: i128, q: i128) -> Option<Rat>
 }
 
 /// A fraction in lowest terms: a space and a number, twice.
-pub fn take_fraction(text: &mut Exact<'_>) -> Result<Rat, AnswerBad>
+pub fn take_fraction(text: &mut Exact<'_>) -> Result<Rat, NotThere>
     ensures taken { IfOk result (λ at. text.old ≡ fraction_text at ++ text.new) }
     ensures shape { IfOk result IsFractionShape }
-    ensures found { (at : Fraction) (rest : List ℕ) → IsFractionShape at → Stops rest → text.old ≡ fraction_text at ++ rest → Takes at rest result text.new }
+    ensures found { (at : Fraction) (rest : List ℕ) → IsFractionShape at → Stops rest → text.old ≡ fraction_text at ++ rest → Finds at rest result text.new }
 {
     let p = take_number(text, -(1 << 73), 1 << 73)?;
     let q = take_number(text, 1, 1 << 46)?;
     match lowest_of(p, q) {
         Some(at) => Ok(at),
-        None => Err(AnswerBad::NotText),
+        None => Err(NotThere),
     }
 }
 
 // One character of a side.
-fn take_node(text: &mut Exact<'_>) -> Result<bool, AnswerBad>
+fn take_node(text: &mut Exact<'_>) -> Result<bool, NotThere>
     ensures taken { IfOk result (λ inside. text.old ≡ side_text (inside ∷ []) ++ text.new) }
-    ensures found { (inside : Bool) (rest : List ℕ) → text.old ≡ side_text (inside ∷ []) ++ rest → Takes inside rest result text.new }
+    ensures found { (inside : Bool) (rest : List ℕ) → text.old ≡ side_text (inside ∷ []) ++ rest → Finds inside rest result text.new }
 {
     if text.word(b"1") {
         return Ok(true);
@@ -125,7 +125,7 @@ pub fn take_numbers(
 }
 
 // The numbers that a line is known by, each with a space in front.
-fn take_indices(text: &mut Exact<'_>, indices: &[usize]) -> Result<(), AnswerBad>
+fn take_indices(text: &mut Exact<'_>, indices: &[usize]) -> Result<(), NotThere>
     ensures taken { IfOk result (λ _. text.old ≡ spaced (map decimal indices.now) ++ text.new) }
     ensures found { (rest : List ℕ) → Stops rest → text.old ≡ spaced (map decimal indices.now) ++ rest → Passes rest result text.new }
 {
@@ -136,7 +136,7 @@ fn take_indices(text: &mut Exact<'_>, indices: &[usize]) -> Result<(), AnswerBad
 }
 
 /// What a line begins with: this word, and the numbers that it is known by.
-pub fn take_head(text: &mut Exact<'_>, word: &[u8], indices: &[usize]) -> Result<(), AnswerBad>
+pub fn take_head(text: &mut Exact<'_>, word: &[u8], indices: &[usize]) -> Result<(), NotThere>
     ensures taken { IfOk result (λ _. text.old ≡ head_text word.now indices.now ++ text.new) }
     ensures found { (rest : List ℕ) → Stops rest → text.old ≡ head_text word.now indices.now ++ rest → Passes rest result text.new }
 {
@@ -216,11 +216,11 @@ pub fn take_fraction_row(
     text: &mut Exact<'_>,
     word: &[u8],
     indices: &[usize],
-) -> Result<Rat, AnswerBad>
+) -> Result<Rat, NotThere>
     ensures taken { IfOk result (λ at. text.old ≡ fraction_line word.now indices.now at [] ++ text.new) }
     ensures shape { IfOk result IsFractionShape }
     ensures found { (at : Fraction) (rest : List ℕ) → IsFractionShape at
-        → text.old ≡ fraction_line word.now indices.now at [] ++ rest → Takes at rest result text.new }
+        → text.old ≡ fraction_line word.now indices.now at [] ++ rest → Finds at rest result text.new }
 {
     take_head(text, word, indices)?;
     let at = take_fraction(text)?;
@@ -236,11 +236,11 @@ pub struct Valued {
 }
 
 // A value of a size below 2^120.
-fn take_value(text: &mut Exact<'_>) -> Result<i128, AnswerBad>
+fn take_value(text: &mut Exact<'_>) -> Result<i128, NotThere>
     ensures taken { IfOk result (λ value. text.old ≡ (32 ∷ signed_decimal value) ++ text.new) }
     ensures shape { IfOk result (IsWithinSize (2 ^ 120)) }
     ensures found { (value : ℤ) (rest : List ℕ) → IsWithinSize (2 ^ 120) value → Stops rest
-        → text.old ≡ (32 ∷ signed_decimal value) ++ rest → Takes value rest result text.new }
+        → text.old ≡ (32 ∷ signed_decimal value) ++ rest → Finds value rest result text.new }
 {
     let value = take_number(text, 1 - (1 << 120), (1 << 120) - 1)?;
     Ok(value)
@@ -251,11 +251,11 @@ pub fn take_valued_row(
     text: &mut Exact<'_>,
     word: &[u8],
     indices: &[usize],
-) -> Result<Valued, AnswerBad>
+) -> Result<Valued, NotThere>
     ensures taken { IfOk result (λ point. text.old ≡ valued_line word.now indices.now point ++ text.new) }
     ensures shape { IfOk result IsValued }
     ensures found { (point : Valued) (rest : List ℕ) → IsValued point
-        → text.old ≡ valued_line word.now indices.now point ++ rest → Takes point rest result text.new }
+        → text.old ≡ valued_line word.now indices.now point ++ rest → Finds point rest result text.new }
 {
     take_head(text, word, indices)?;
     let at = take_fraction(text)?;
@@ -346,11 +346,11 @@ pub fn take_labels(
 
 /// A line of a count from `least` on, as `k K`, of no more than bytes stand after it: so what is read for each of what is
 /// counted takes no more memory than the text.
-pub fn take_count(text: &mut Exact<'_>, word: &[u8], least: usize) -> Result<usize, AnswerBad>
+pub fn take_count(text: &mut Exact<'_>, word: &[u8], least: usize) -> Result<usize, NotThere>
     ensures taken { IfOk result (λ count. text.old ≡ row_line word.now (count ∷ []) [] ++ text.new) }
     ensures some { IfOk result (λ count. least ≤ count) }
     ensures found { (count : ℕ) (rest : List ℕ) → least ≤ count → count ≤ length rest
-        → text.old ≡ row_line word.now (count ∷ []) [] ++ rest → Takes count rest result text.new }
+        → text.old ≡ row_line word.now (count ∷ []) [] ++ rest → Finds count rest result text.new }
 {
     take_word(text, word)?;
     let most = text.rest().len();
@@ -360,12 +360,12 @@ pub fn take_count(text: &mut Exact<'_>, word: &[u8], least: usize) -> Result<usi
 }
 
 /// The end: nothing is left.
-pub fn take_end(text: &Exact<'_>) -> Result<(), AnswerBad>
+pub fn take_end(text: &Exact<'_>) -> Result<(), NotThere>
     ensures taken { IfOk result (λ _. text.now ≡ []) }
-    ensures found { text.now ≡ [] → IfErr result IsExcused }
+    ensures found { text.now ≡ [] → IfErr result (λ _. ⊥) }
 {
     if text.rest().is_empty() {
         return Ok(());
     }
-    Err(AnswerBad::NotText)
+    Err(NotThere)
 }

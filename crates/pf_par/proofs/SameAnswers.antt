@@ -1,14 +1,13 @@
 -- Answers of the right shape with equal texts are equal.
-use Rattle.std.proofs.Common.{◌≡◌, ℕ, ◌<◌, ◌≤◌, ◌^◌, List, [], ◌∷◌, ◌++◌, length, get_or, drop, map, refl, sym, ap, ◌∙◌, append_assoc, arith}
-use Rattle.std.specs.Prelude.{ℤ, Bool, nat_abs, codes}
+use Rattle.std.proofs.Common.{◌≡◌, ℕ, ◌<◌, ◌^◌, List, [], ◌∷◌, ◌++◌, length, get_or, drop, map, refl, sym, ap, ◌∙◌, append_assoc, arith}
+use Rattle.std.specs.Prelude.{ℤ, Bool, codes}
 use Rattle.std.specs.List.{AllByRecursion}
 use Rattle.std.specs.Fmt.{signed_decimal}
-use Rattle.std.proofs.lemmas.Int.{ints}
 use Rattle.std.proofs.lemmas.List.{append-nil}
 use Rattle.std.proofs.lemmas.List.Elements.{recursion_from_All}
 use Rattle.pf_model.specs.Fraction.{Fraction}
 use Rattle.pf_model.specs.Network.{Network, IsNetworkCut}
-use Rattle.pf_model.specs.Answer.{Point, IsWithinSize, IsFractionShape, IsFlowShape, IsPointShape}
+use Rattle.pf_model.specs.Answer.{Point, IsWithinSize, IsFlowShape, IsPointShape}
 use Rattle.pf_text.specs.Spelling.{line}
 use Rattle.pf_par.specs.Answers.{point_fields, cut_fields, point_text}
 use Rattle.pf_text.proofs.SameParts.{same_fraction, same_numbers}

@@ -140,7 +140,7 @@ sense_kept Falling s t u v p q b h k inner e =
     let after = rule_turned (eqb p 0 && not (eqb q 0) && not (eqb q 1)) (eqb q 1 && not (eqb p 1) && not (eqb p 0)) (int_le b (pos 0)) (int_le (pos 0) b) in
     after ∙ slope_kept s t u v p q (int_le b (pos 0)) (int_le (pos 0) b) h k inner (sym before ∙ e)
 
-core_arc : (part : Between) (arc : AffineArc) → AreNested part.net part.small part.large → IsMonotoneArc part.net arc → IsSmallArc arc →
+pub core_arc : (part : Between) (arc : AffineArc) → AreNested part.net part.small part.large → IsMonotoneArc part.net arc → IsSmallArc arc →
     (ltb 1 (place part.small part.large arc.tail) || ltb 1 (place part.small part.large arc.head)) ≡ true → IsCoreArc part (renamed (place part.small part.large) arc)
 core_arc part arc nested one small inner =
     record {

@@ -5,3 +5,6 @@ pub mod Smallest
 pub mod Openings
 pub mod Opened
 pub mod CoreLemmas
+pub mod Gathered
+pub mod Rows
+pub mod OpenedCore

@@ -41,14 +41,14 @@ between_ends n sense lo hi arcs = record { nodes = n; source = 0; sink = 1; sens
 arc_step : (u v u' v' : ℕ) (arc : AffineArc) → u ≡ u' → v ≡ v' → arc_of u v arc ≡ arc_of u' v' arc
 arc_step u v u' v' arc e f = rw (e, f) refl
 
-renamed_same : (n : ℕ) (f g : ℕ → ℕ) (arc : AffineArc) → Agree n f g → AreBelow n arc → renamed f arc ≡ renamed g arc
+pub renamed_same : (n : ℕ) (f g : ℕ → ℕ) (arc : AffineArc) → Agree n f g → AreBelow n arc → renamed f arc ≡ renamed g arc
 renamed_same n f g arc h b = arc_step (f arc.tail) (f arc.head) (g arc.tail) (g arc.head) arc (h arc.tail b.tail) (h arc.head b.head)
 
 between_step : (u v u' v' : ℕ) (arc : AffineArc) (xs ys : List AffineArc) → u ≡ u' → v ≡ v' → xs ≡ ys →
     cond (eqb u v) xs (arc_of u v arc ∷ xs) ≡ cond (eqb u' v') ys (arc_of u' v' arc ∷ ys)
 between_step u v u' v' arc xs ys e f h = rw (e, f, h) refl
 
-between_same : (n : ℕ) (f g : ℕ → ℕ) (arcs : List AffineArc) → Agree n f g → All (AreBelow n) arcs → arcs_between f arcs ≡ arcs_between g arcs
+pub between_same : (n : ℕ) (f g : ℕ → ℕ) (arcs : List AffineArc) → Agree n f g → All (AreBelow n) arcs → arcs_between f arcs ≡ arcs_between g arcs
 between_same n f g [] h b = refl
 between_same n f g (arc ∷ arcs) h b =
     let first = b 0 no_arc (omega arith) in
@@ -90,7 +90,7 @@ graph_of_arcs n arcs b = record {
       rw (get_or-map ends_of arcs i no_arc (0, 0) here) (b i no_arc here).head;
 }
 
-network_below : (net : Network) → IsBuilt net → All (AreBelow net.nodes) net.arcs
+pub network_below : (net : Network) → IsBuilt net → All (AreBelow net.nodes) net.arcs
 network_below net b i d low = let arc = b.monotone.each i d low in record { tail = arc.tail; head = arc.head }
 
 abbrev pub whole : Network → List Bool → List Bool → Between

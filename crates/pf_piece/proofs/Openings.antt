@@ -59,7 +59,7 @@ first_step : (same : Bool) (first : AffineArc) → cond same [] (first ∷ []) �
 first_step true first = refl
 first_step false first = refl
 
-between_suc : (f : ℕ → ℕ) (arcs : List AffineArc) (i : ℕ) → i < length arcs →
+pub between_suc : (f : ℕ → ℕ) (arcs : List AffineArc) (i : ℕ) → i < length arcs →
     arcs_between f (take (suc i) arcs)
     ≡ arcs_between f (take i arcs) ++ cond (eqb (f (arc_at arcs i).tail) (f (arc_at arcs i).head)) [] (renamed f (arc_at arcs i) ∷ [])
 between_suc f [] i low = absurd (omega arith)

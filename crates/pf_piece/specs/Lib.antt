@@ -1,3 +1,4 @@
 pub mod Piece
 pub mod Laws
 pub mod Held
+pub mod Cores

@@ -3,9 +3,12 @@
 //! cuts the piece's smallest least cut lifts to the network's.
 #![tactic(auto)]
 
+mod cores;
+mod gathering;
 mod inner;
 pub mod laws;
 mod opening;
 mod piece;
 
+pub use cores::Core;
 pub use piece::Piece;

@@ -38,7 +38,7 @@ impl<'a> Model for Piece<'a> {
 }
 
 // Writes the side that a side of the piece lifts to: each node of the network is in it where the one that stands for it is in that.
-fn write_lift(places: &[u32], piece_side: &[bool], side: &mut [bool])
+pub fn write_lift(places: &[u32], piece_side: &[bool], side: &mut [bool])
     requires nodes { (v : ℕ) → v < length places.now → slice_index_or places.now v 0 < length piece_side.now }
     requires full { length side.old ≡ length places.now }
     ensures full { length side.new ≡ length places.now }

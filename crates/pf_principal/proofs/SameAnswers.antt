@@ -6,14 +6,13 @@ use Rattle.std.proofs.lemmas.List.Elements.{recursion_from_All}
 use Rattle.pf_frame.specs.Numbers.{IsSized}
 use Rattle.pf_text.specs.Spelling.{line, row_line}
 use Rattle.pf_format.specs.Format.{HasOneReading}
-use Rattle.pf_format.specs.Shapes.{IsWord}
 use Rattle.pf_format.specs.LineLaws.{flow_row_one, label_row_one}
 use Rattle.pf_format.proofs.ItemLaws.{valued_row_one, count_left, counted_one, items_one}
 use Rattle.pf_graph.specs.WeightedGraph.{WeightedGraph, digraph_of}
 use Rattle.pf_graph.specs.Labels.{IsPartition}
 use Rattle.pf_graph.specs.Limits.{IsWithinLimits}
 use Rattle.pf_graph.specs.Best.{partition_at}
-use Rattle.pf_strength.specs.TextLaws.{labels_of_partition}
+use Rattle.pf_graph.proofs.LineLabels.{labels_of_partition}
 use Rattle.pf_strength.proofs.TextLemmas.{row_of_sized}
 use Rattle.pf_principal.specs.Principal.{PrincipalAnswer, IsPrincipalShape, CertifiesPrincipal}
 use Rattle.pf_principal.specs.Text.{LevelRows, level_line, part_line, step_text, steps_text, steps_of, vector_line, splits_text, level_text, levels_text, levels_rows, principal_text}
@@ -28,18 +27,18 @@ use Rattle.pf_principal.proofs.Shapes.{steps_shaped, rows_shaped_of, answer_agai
 
 part_one : (n j : ℕ) → n ≤ 500 → HasOneReading (part_line j) (IsPartition n)
 part_one n j few x y rest later a b e =
-    label_row_one (codes "s") (j ∷ []) n n (omega (arith, few)) (record { some = omega arith; all = refl }) x y rest later (labels_of_partition n x a) (labels_of_partition n y b) e
+    label_row_one (codes "s") (j ∷ []) n n (omega (arith, few)) x y rest later (labels_of_partition n x a) (labels_of_partition n y b) e
 
-row_one : (g : WeightedGraph) (word indices : List ℕ) → IsWord word → HasOneReading (row_line word indices) (IsSized (digraph_of g))
-row_one g word indices w x y rest later a b e =
+row_one : (g : WeightedGraph) (word indices : List ℕ) → HasOneReading (row_line word indices) (IsSized (digraph_of g))
+row_one g word indices x y rest later a b e =
     let width = length g.ends in
-    flow_row_one word indices width w x y rest later (row_of_sized g x width refl a) (row_of_sized g y width refl b) e
+    flow_row_one word indices width x y rest later (row_of_sized g x width refl a) (row_of_sized g y width refl b) e
 
 -- ---- steps and levels
 
 step_one : (n j : ℕ) → n ≤ 500 → HasOneReading (step_text j) (IsStepShape n)
 step_one n j few x y rest later a b e =
-    let s = valued_row_one (codes "b") (j ∷ []) (record { some = omega arith; all = refl }) x.level y.level (part_line j x.partition ++ rest) (part_line j y.partition ++ later) a.level b.level
+    let s = valued_row_one (codes "b") (j ∷ []) x.level y.level (part_line j x.partition ++ rest) (part_line j y.partition ++ later) a.level b.level
     (sym (append_assoc (level_line j x.level) (part_line j x.partition) rest) ∙ e ∙ append_assoc (level_line j y.level) (part_line j y.partition) later) in
     let t = part_one n j few x.partition y.partition rest later a.partition b.partition s.left in
     record { value = same_step x.level x.partition y s.value t.value; left = t.left }
@@ -52,10 +51,10 @@ same_rows vector vector' splits splits' e f = cc
 
 level_one : (g : WeightedGraph) (j : ℕ) → HasOneReading (level_text j) (IsRowsShape g)
 level_one g j x y rest later a b e =
-    let s = row_one g (codes "y") (j ∷ []) (record { some = omega arith; all = refl }) x.vector y.vector (splits_text j 0 x.splits ++ rest) (splits_text j 0 y.splits ++ later) a.vector b.vector
+    let s = row_one g (codes "y") (j ∷ []) x.vector y.vector (splits_text j 0 x.splits ++ rest) (splits_text j 0 y.splits ++ later) a.vector b.vector
     (sym (append_assoc (vector_line j x.vector) (splits_text j 0 x.splits) rest) ∙ e ∙ append_assoc (vector_line j y.vector) (splits_text j 0 y.splits) later) in
     let sized = IsSized (digraph_of g) in
-    let t = counted_one (split_items g j) (λ r. row_one g (codes "r") (j ∷ ((r + 1) ∷ [])) (record { some = omega arith; all = refl })) 0 x.splits y.splits rest later (a.count ∙ sym b.count)
+    let t = counted_one (split_items g j) (λ r. row_one g (codes "r") (j ∷ ((r + 1) ∷ []))) 0 x.splits y.splits rest later (a.count ∙ sym b.count)
     (recursion_from_All sized x.splits a.splits) (recursion_from_All sized y.splits b.splits) s.left in
     record { value = same_rows x.vector y.vector x.splits y.splits s.value t.value; left = t.left }
 
@@ -93,7 +92,7 @@ one_answer g a b limits sa sb e =
     let rows' = levels_rows g.nodes b.vectors b.splits in
     let lines = append_cancel_left (line (codes "o" ∷ codes "partition" ∷ [])) (later_text g a) (later_text g b) (sym (text_is g a) ∙ e ∙ text_is g b) in
     let counted = count_left (codes "k") (length a.levels) (length b.levels) (part_line 0 first ++ (steps_text 0 steps ++ (levels_text 0 rows ++ end)))
-    (part_line 0 first' ++ (steps_text 0 steps' ++ (levels_text 0 rows' ++ end))) (record { some = omega arith; all = refl }) lines in
+    (part_line 0 first' ++ (steps_text 0 steps' ++ (levels_text 0 rows' ++ end))) lines in
     let labels = part_one g.nodes 0 limits.nodes first first' (steps_text 0 steps ++ (levels_text 0 rows ++ end)) (steps_text 0 steps' ++ (levels_text 0 rows' ++ end))
     (sa.fits.partition 0 (omega arith)) (sb.fits.partition 0 (omega arith)) counted in
     let both = items_one (step_items g.nodes) 98 (record { one = λ j. step_one g.nodes (j + 1) limits.nodes; front = λ j x rest. refl }) 0 steps steps' (levels_text 0 rows ++ end) (levels_text 0 rows' ++ end)

@@ -19,3 +19,13 @@ answer_text name word x set numbers =
     ++ side_line (codes "s") [] [] set
     ++ row_line (codes "f") [] numbers
     ++ line (codes "end" ∷ [])
+
+-- the parts of an answer, as its text has them one after the other, their text and their shape
+abbrev pub Parts : Type 0
+Parts = Fraction × (List Bool × List ℤ)
+
+abbrev pub parts_text : List ℕ → List ℕ → Parts → List ℕ
+parts_text name word parts = answer_text name word parts.0 parts.1.0 parts.1.1
+
+abbrev pub HaveShape : ℕ → ℕ → Parts → Type 0
+HaveShape count width parts = IsAnswerShape count width parts.0 parts.1.0 parts.1.1

@@ -1,16 +1,8 @@
 -- What holds of the texts of answers.
-use Rattle.std.specs.Prelude.{◌≡◌, ℕ, ◌<◌, ℤ, Bool, List}
-use Rattle.pf_model.specs.Fraction.{Fraction}
-use Rattle.pf_ratio.specs.Answer.{IsAnswerShape, answer_text}
+use Rattle.std.specs.Prelude.{◌≡◌, ℕ, List}
+use Rattle.pf_ratio.specs.Answer.{Parts, parts_text, HaveShape}
 
--- two answers have the same parts
-pub record AreSameParts (x y : Fraction) (set set' : List Bool) (numbers numbers' : List ℤ) : Type 0 where
-  pub ratio : x ≡ y
-  pub chosen : set ≡ set'
-  pub each : numbers ≡ numbers'
-
--- answers of one shape with equal texts are equal, where the set has a place
+-- answers of one shape with equal texts are equal
 abbrev pub OneAnswer : Type 0
-OneAnswer = (name word : List ℕ) (count width : ℕ) (x y : Fraction) (set set' : List Bool) (numbers numbers' : List ℤ) → 0 < count →
-    IsAnswerShape count width x set numbers → IsAnswerShape count width y set' numbers' →
-    answer_text name word x set numbers ≡ answer_text name word y set' numbers' → AreSameParts x y set set' numbers numbers'
+OneAnswer = (name word : List ℕ) (count width : ℕ) (x y : Parts) → HaveShape count width x → HaveShape count width y →
+    parts_text name word x ≡ parts_text name word y → x ≡ y

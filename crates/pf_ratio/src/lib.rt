@@ -12,4 +12,4 @@ mod text;
 pub use link::Link;
 pub use marking::{Links, mark_linked};
 pub use sets::{has_some, is_rest};
-pub use text::{Answer, read_answer, write_answer};
+pub use text::{Parts, read_answer, write_answer};

@@ -1,36 +1,56 @@
 // The text of an answer: writing, and reading back.
-ghost use Rattle.std.specs.Prelude.{◌≡◌, ◌≢◌, ◌++◌, [], ◌∷◌, ℕ, ℤ, Bool, List, IfOk, Err, codes, false};
-ghost use Rattle.pf_model.specs.Fraction.{Fraction};
-ghost use Rattle.pf_text.specs.Spelling.{line};
+ghost use Rattle.std.specs.Prelude.{◌≡◌, ◌↔◌, false};
 ghost use Rattle.pf_io.specs.Printing.{Adds, is_spent};
-ghost use Rattle.pf_lines.specs.Taking.{Passes, Takes};
-ghost use Rattle.pf_ratio.specs.declared.text.Answer.{Answer};
-ghost use Rattle.pf_ratio.specs.Answer.{IsAnswerShape, answer_text};
+ghost use Rattle.pf_format.specs.Format.{ReadsWhole};
+ghost use Rattle.pf_ratio.specs.Answer.{parts_text, HaveShape};
 
+use pf_format::{Ended, FlowRow, Format, FractionRow, Marked, SideRow, Then, read_whole};
 use pf_frame::{Numbers, Side};
-use pf_io::{Failed, Printer, Sink, print_fraction_row, print_row, print_side_row};
-use pf_lines::{
-    AnswerBad, Exact, take_end, take_flow_row, take_fraction_row, take_side_row, take_word,
-};
+use pf_io::{Failed, Printer, Sink};
+use pf_lines::AnswerBad;
 use pf_rat::Rat;
 use std::alloc::Global;
 
-/// What a text gave: the fraction, the set, and the numbers that are to certify both.
-#[derive(Drop)]
-pub struct Answer {
-    pub ratio: Rat,
-    pub chosen: Side,
-    pub numbers: Numbers,
-}
+/// The parts of an answer: the fraction, and then the set and the numbers that are to certify both.
+pub type Parts = (Rat, (Side, Numbers));
 
-// The first line.
-fn print_name<K: Sink>(out: &mut Printer<'_, K>, name: &[u8]) -> Result<(), Failed>
-    requires { is_spent out.old ≡ false }
-    ensures { Adds out.old out.new (line (codes "o" ∷ name.now ∷ [])) result }
+// The lines of an answer, one after the other.
+type AnswerFormat<'a> = Marked<
+    'a,
+    Marked<'a, Marked<'a, Then<FractionRow<'a>, Then<SideRow<'a>, Ended<'a, FlowRow<'a>>>>>>,
+>;
+
+// The format of the answers with a set of so many places, and so many numbers. A text does not show the sizes.
+fn answer_format<'a>(name: &'a [u8], word: &'a [u8], count: usize, width: usize) -> AnswerFormat<'a>
+    ensures text { (parts : _) → ⟦<AnswerFormat<'a> as Format>⟧.text result parts ≡ parts_text name.now word.now parts }
+    ensures shape { (parts : _) → ⟦<AnswerFormat<'a> as Format>⟧.shape result parts ↔ HaveShape count width parts }
 {
-    out.word(b"o ")?;
-    out.word(name)?;
-    out.word(b"\n")
+    let ratio = FractionRow { word };
+    let chosen = SideRow {
+        word: b"s",
+        nodes: count,
+    };
+    let numbers = Ended {
+        format: FlowRow { word: b"f", width },
+        word: b"end\n",
+    };
+    let lines = Then {
+        first: ratio,
+        second: Then {
+            first: chosen,
+            second: numbers,
+        },
+    };
+    Marked {
+        word: b"o ",
+        format: Marked {
+            word: name,
+            format: Marked {
+                word: b"\n",
+                format: lines,
+            },
+        },
+    }
 }
 
 /// Writes an answer: `o NAME`, the line of the fraction with its word, `s` with one character for each place of the set, `f` with the
@@ -39,55 +59,12 @@ pub fn write_answer<K: Sink>(
     out: &mut Printer<'_, K>,
     name: &[u8],
     word: &[u8],
-    ratio: &Rat,
-    chosen: &[bool],
-    numbers: &[i128],
+    parts: &Parts,
 ) -> Result<(), Failed>
     requires { is_spent out.old ≡ false }
-    ensures { Adds out.old out.new (answer_text name.now word.now ratio.now chosen.now numbers.now) result }
+    ensures { Adds out.old out.new (parts_text name.now word.now parts.now) result }
 {
-    print_name(out, name)?;
-    print_fraction_row(out, word, &[], ratio, &[])?;
-    print_side_row(out, b"s", &[], &[], chosen)?;
-    print_row(out, b"f", &[], numbers)?;
-    out.word(b"end\n")
-}
-
-// The first line.
-fn take_name(text: &mut Exact<'_>, name: &[u8]) -> Result<(), AnswerBad>
-    ensures taken { IfOk result (λ _. text.old ≡ line (codes "o" ∷ name.now ∷ []) ++ text.new) }
-    ensures found { (rest : List ℕ) → text.old ≡ line (codes "o" ∷ name.now ∷ []) ++ rest → Passes rest result text.new }
-{
-    take_word(text, b"o ")?;
-    take_word(text, name)?;
-    take_word(text, b"\n")?;
-    Ok(())
-}
-
-// The whole answer, from the first word to the last.
-fn take_answer(
-    alloc: Global,
-    name: &[u8],
-    word: &[u8],
-    count: usize,
-    width: usize,
-    text: &mut Exact<'_>,
-) -> Result<Answer, AnswerBad>
-    ensures taken { IfOk result (λ a. text.old ≡ answer_text name.now word.now a.ratio a.chosen a.numbers ++ text.new) }
-    ensures shape { IfOk result (λ a. IsAnswerShape count width a.ratio a.chosen a.numbers) }
-    ensures found { (a : Answer) (rest : List ℕ) → IsAnswerShape count width a.ratio a.chosen a.numbers
-        → text.old ≡ answer_text name.now word.now a.ratio a.chosen a.numbers ++ rest → Takes a rest result text.new }
-{
-    take_name(text, name)?;
-    let ratio = take_fraction_row(text, word, &[])?;
-    let chosen = take_side_row(alloc, b"s", &[], count, text)?;
-    let numbers = take_flow_row(alloc, b"f", &[], width, text)?;
-    take_word(text, b"end\n")?;
-    Ok(Answer {
-        ratio,
-        chosen,
-        numbers,
-    })
+    answer_format(name, word, 0, 0).print(out, parts)
 }
 
 /// The answer with a set of `count` places and `width` numbers whose text these bytes are: there is at most one. Numbers and words
@@ -99,14 +76,9 @@ pub fn read_answer(
     count: usize,
     width: usize,
     text: &[u8],
-) -> Result<Answer, AnswerBad>
-    ensures shape { IfOk result (λ a. IsAnswerShape count width a.ratio a.chosen a.numbers) }
-    ensures text { IfOk result (λ a. text.now ≡ answer_text name.now word.now a.ratio a.chosen a.numbers) }
-    ensures refused { result ≡ Err AnswerBad.NotText → (x : Fraction) (set : List Bool) (numbers : List ℤ) → IsAnswerShape count width x set numbers
-        → text.now ≢ answer_text name.now word.now x set numbers }
+) -> Result<Parts, AnswerBad>
+    ensures { ReadsWhole (parts_text name.now word.now) (HaveShape count width) text.now result }
 {
-    let mut rest = Exact::new(text);
-    let answer = take_answer(alloc, name, word, count, width, &mut rest)?;
-    take_end(&rest)?;
-    Ok(answer)
+    let format = answer_format(name, word, count, width);
+    read_whole(alloc, &format, text)
 }

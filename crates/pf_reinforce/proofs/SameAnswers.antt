@@ -18,7 +18,7 @@ use Rattle.pf_format.proofs.ItemLaws.{number_row_one, count_left}
 use Rattle.pf_graph.specs.WeightedGraph.{WeightedGraph}
 use Rattle.pf_graph.specs.Labels.{IsPartition}
 use Rattle.pf_graph.specs.Limits.{IsWithinLimits}
-use Rattle.pf_strength.specs.TextLaws.{labels_of_partition}
+use Rattle.pf_graph.proofs.LineLabels.{labels_of_partition}
 use Rattle.pf_strength.proofs.TextLemmas.{row_of_sized, rows_of_sized}
 use Rattle.pf_reinforce.specs.declared.reinforcement.Reinforcement.{Reinforcement}
 use Rattle.pf_reinforce.specs.declared.reinforcement.Reinforcement.TheVariants.{Added, Blocked}
@@ -30,7 +30,7 @@ use Rattle.pf_reinforce.specs.Text.{threshold_line, thresholds_text, added_text,
 
 part_one : (n : ℕ) → n ≤ 500 → HasOneReading (label_line (codes "s") []) (IsPartition n)
 part_one n few x y rest later a b e =
-    label_row_one (codes "s") [] n n (omega (arith, few)) (record { some = omega arith; all = refl }) x y rest later (labels_of_partition n x a) (labels_of_partition n y b) e
+    label_row_one (codes "s") [] n n (omega (arith, few)) x y rest later (labels_of_partition n x a) (labels_of_partition n y b) e
 
 same_threshold : (n : ℕ) → n ≤ 500 → (x y : ℤ × List ℕ) → IsWithinSize (2 ^ 104) x.0 × IsPartition n x.1 → IsWithinSize (2 ^ 104) y.0 × IsPartition n y.1 →
     signed_decimal x.0 ∷ map decimal x.1 ≡ signed_decimal y.0 ∷ map decimal y.1 → x ≡ y
@@ -43,7 +43,7 @@ same_threshold n few (s, p) (t, q) a b e =
 
 threshold_one : (n j : ℕ) → n ≤ 500 → HasOneReading (λ (p : ℤ × List ℕ). threshold_line j p.0 p.1) (λ p. IsWithinSize (2 ^ 104) p.0 × IsPartition n p.1)
 threshold_one n j few =
-    line_one (codes "t") (j ∷ []) (λ (p : ℤ × List ℕ). signed_decimal p.0 ∷ map decimal p.1) (λ p. IsWithinSize (2 ^ 104) p.0 × IsPartition n p.1) (record { some = omega arith; all = refl })
+    line_one (codes "t") (j ∷ []) (λ (p : ℤ × List ℕ). signed_decimal p.0 ∷ map decimal p.1) (λ p. IsWithinSize (2 ^ 104) p.0 × IsPartition n p.1)
     (λ p. (signed_plain p.0, labels_plain p.1)) (same_threshold n few)
 
 record AreSameThresholds (a b : List ℤ) (ps qs : List (List ℕ)) (x y : List ℕ) : Type 0 where
@@ -91,9 +91,9 @@ Front = Fraction × (ℤ × (List ℤ × List ℤ))
 -- the level, the cost, what is added and the vector
 abbrev front : ℕ → Spelling Front
 front width =
-    let c : Spelling ℤ = record { text = λ x. row_line (codes "c") [] (x ∷ []); Is = IsWithinSize (2 ^ 127); one = number_row_one (codes "c") [] (record { some = omega arith; all = refl }) } in
-    then (fraction_row (codes "d") (record { some = omega arith; all = refl })) (then c
-    (then (flow_row (codes "x") (record { some = omega arith; all = refl }) width) (flow_row (codes "y") (record { some = omega arith; all = refl }) width)))
+    let c : Spelling ℤ = record { text = λ x. row_line (codes "c") [] (x ∷ []); Is = IsWithinSize (2 ^ 127); one = number_row_one (codes "c") [] } in
+    then (fraction_row (codes "d")) (then c
+    (then (flow_row (codes "x") width) (flow_row (codes "y") width)))
 
 abbrev front_fields : AddedAnswer → Front
 front_fields a = (a.level, (a.cost, (a.added, a.vector)))
@@ -147,14 +147,13 @@ one_added g a b limits sa sb e =
     let width = length g.ends in
     let fits : (c : AddedAnswer) → IsSizedAdded g c → (front width).Is (front_fields c) = λ c s. (s.level, (s.cost, (row_of_sized g c.added width refl s.added, row_of_sized g c.vector width refl s.vector))) in
     let first = (front width).one (front_fields a) (front_fields b) (back a) (back b) (fits a sa) (fits b sb) e in
-    let counted = count_left (codes "k") (length a.thresholds) (length b.thresholds) (thresholds_text 0 a.thresholds a.parts ++ splits_end a) (thresholds_text 0 b.thresholds b.parts ++ splits_end b)
-    (record { some = omega arith; all = refl }) first.left in
+    let counted = count_left (codes "k") (length a.thresholds) (length b.thresholds) (thresholds_text 0 a.thresholds a.parts ++ splits_end a) (thresholds_text 0 b.thresholds b.parts ++ splits_end b) first.left in
     let sized = IsWithinSize (2 ^ 104) in
     let both = same_thresholds g.nodes 0 a.thresholds a.parts b.thresholds b.parts (splits_end a) (splits_end b) limits.nodes sa.count sb.count
     (recursion_from_All sized a.thresholds sa.thresholds) (recursion_from_All (IsPartition g.nodes) a.parts sa.parts)
     (recursion_from_All sized b.thresholds sb.thresholds) (recursion_from_All (IsPartition g.nodes) b.parts sb.parts)
     (not_threshold a) (not_threshold b) counted in
-    let splits = flow_rows_one (codes "r") 1 width g.nodes (record { some = omega arith; all = refl }) a.splits b.splits end end
+    let splits = flow_rows_one (codes "r") 1 width g.nodes a.splits b.splits end end
     (record { full = sa.rows; each = rows_of_sized g a.splits width refl sa.splits }) (record { full = sb.rows; each = rows_of_sized g b.splits width refl sb.splits }) both.behind in
     same_answer (front_fields a) (front_fields b) a.thresholds b.thresholds a.parts b.parts a.splits b.splits first.value both.prices both.parts splits.value
 

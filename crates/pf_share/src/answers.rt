@@ -5,7 +5,7 @@ ghost use Rattle.pf_model.specs.Fraction.{Fraction};
 ghost use Rattle.pf_model.specs.Answer.{IsFractionShape};
 ghost use Rattle.pf_model.specs.Cut.{at_arc};
 ghost use Rattle.pf_text.specs.Spelling.{row_line};
-ghost use Rattle.pf_lines.specs.Taking.{Takes, Passes, Stops};
+ghost use Rattle.pf_lines.specs.Taking.{Finds, Takes, Passes, Stops};
 ghost use Rattle.pf_share.specs.Certificate.{SharesAnswer};
 ghost use Rattle.pf_share.specs.Right.{IsGroupsShape, IsSharesShape};
 ghost use Rattle.pf_share.specs.Taken.{IsGrouped, AreGrouped, front_text, front_of, IsFrontShape};
@@ -17,17 +17,17 @@ use crate::weighted::share_of;
 use pf_curve::Points;
 use pf_frame::Numbers;
 use pf_lines::{
-    AnswerBad, Exact, take_count, take_end, take_flow_row, take_fraction_row, take_head,
+    AnswerBad, Exact, NotThere, take_count, take_end, take_flow_row, take_fraction_row, take_head,
     take_number, take_row, take_word,
 };
 use pf_rat::Rat;
 use std::alloc::Global;
 
 // The line of level `j`.
-fn take_level(j: usize, text: &mut Exact<'_>) -> Result<Rat, AnswerBad>
+fn take_level(j: usize, text: &mut Exact<'_>) -> Result<Rat, NotThere>
     ensures taken { IfOk result (λ level. text.old ≡ level_line j level ++ text.new) }
     ensures shape { IfOk result IsFractionShape }
-    ensures found { (level : Fraction) (rest : List ℕ) → IsFractionShape level → text.old ≡ level_line j level ++ rest → Takes level rest result text.new }
+    ensures found { (level : Fraction) (rest : List ℕ) → IsFractionShape level → text.old ≡ level_line j level ++ rest → Finds level rest result text.new }
 {
     take_fraction_row(text, b"l", &[j])
 }
@@ -94,7 +94,7 @@ fn take_groups(
 }
 
 // A space, and this number.
-fn take_known(text: &mut Exact<'_>, number: i128) -> Result<(), AnswerBad>
+fn take_known(text: &mut Exact<'_>, number: i128) -> Result<(), NotThere>
     ensures taken { IfOk result (λ _. text.old ≡ (32 ∷ signed_decimal number) ++ text.new) }
     ensures found { (rest : List ℕ) → Stops rest → text.old ≡ (32 ∷ signed_decimal number) ++ rest → Passes rest result text.new }
 {
@@ -103,7 +103,7 @@ fn take_known(text: &mut Exact<'_>, number: i128) -> Result<(), AnswerBad>
 }
 
 // The line of `x` with these numbers.
-fn take_known_row(text: &mut Exact<'_>, v: usize, p: i128, q: i128) -> Result<(), AnswerBad>
+fn take_known_row(text: &mut Exact<'_>, v: usize, p: i128, q: i128) -> Result<(), NotThere>
     ensures taken { IfOk result (λ _. text.old ≡ row_line (codes "x") (v ∷ []) (p ∷ q ∷ []) ++ text.new) }
     ensures found { (rest : List ℕ) → text.old ≡ row_line (codes "x") (v ∷ []) (p ∷ q ∷ []) ++ rest → Passes rest result text.new }
 {
@@ -115,7 +115,7 @@ fn take_known_row(text: &mut Exact<'_>, v: usize, p: i128, q: i128) -> Result<()
 }
 
 // The share of the node that texts number `v`.
-fn take_share(text: &mut Exact<'_>, v: usize, level: &Rat, weight: u32) -> Result<(), AnswerBad>
+fn take_share(text: &mut Exact<'_>, v: usize, level: &Rat, weight: u32) -> Result<(), NotThere>
     requires low { 1 ≤ weight }
     requires high { weight ≤ 1000000 }
     ensures taken { IfOk result (λ _. text.old ≡ share_line v level.now (pos weight) ++ text.new) }
@@ -131,7 +131,7 @@ fn take_node(
     answer: &Shares,
     v: usize,
     text: &mut Exact<'_>,
-) -> Result<(), AnswerBad>
+) -> Result<(), NotThere>
     requires shape { IsGroupsShape sharing.now (length answer.now.levels) answer.now.groups }
     requires node { v < sharing.now.nodes }
     ensures taken { IfOk result (λ _. text.old ≡ node_text answer.now.levels v (at_arc sharing.now.weights v) (at_arc answer.now.groups v) ++ text.new) }
@@ -149,7 +149,7 @@ fn take_node(
 }
 
 // The share of each source.
-fn take_nodes(sharing: &Sharing, answer: &Shares, text: &mut Exact<'_>) -> Result<(), AnswerBad>
+fn take_nodes(sharing: &Sharing, answer: &Shares, text: &mut Exact<'_>) -> Result<(), NotThere>
     requires { IsGroupsShape sharing.now (length answer.now.levels) answer.now.groups }
     ensures taken { IfOk result (λ _. text.old ≡ shares_lines answer.now.levels 0 sharing.now.weights answer.now.groups ++ text.new) }
     ensures found { (rest : List ℕ) → text.old ≡ shares_lines answer.now.levels 0 sharing.now.weights answer.now.groups ++ rest

@@ -9,7 +9,7 @@ use Rattle.pf_frame.specs.Numbers.{IsSized}
 use Rattle.pf_text.specs.Spelling.{line, row_line, fraction_line, label_line, table_text}
 use Rattle.pf_lines.specs.Taking.{IsFlowRow}
 use Rattle.pf_format.specs.Format.{HasOneReading}
-use Rattle.pf_format.specs.Shapes.{IsWord, AreFlowRows}
+use Rattle.pf_format.specs.Shapes.{AreFlowRows}
 use Rattle.pf_format.proofs.Formats.{Spelling, then, marked, ended, fraction_row, flow_row, flow_rows, made_one}
 use Rattle.pf_graph.specs.WeightedGraph.{WeightedGraph, digraph_of}
 use Rattle.pf_graph.specs.Labels.{parts, IsPartition}
@@ -115,11 +115,8 @@ fits_of g nodes edges f n m s = (
 pub one_text : (g : WeightedGraph) → IsWithinLimits g → HasOneReading strength_text (IsStrengthShape g)
 one_text g limits =
     let few = limits.nodes in
-    let d : IsWord (codes "d") = record { some = omega arith; all = refl } in
-    let y : IsWord (codes "y") = record { some = omega arith; all = refl } in
-    let r : IsWord (codes "r") = record { some = omega arith; all = refl } in
     let partition : Spelling (List ℕ) = record { text = partition_text; Is = IsPartition g.nodes; one = partition_one g.nodes (omega (arith, few)) } in
-    let lines = marked (line (codes "o" ∷ codes "strength" ∷ [])) (then (fraction_row (codes "d") d) (then partition (then (flow_row (codes "y") y (length g.ends))
-    (ended (flow_rows (codes "r") r 1 g.nodes (length g.ends)) (line (codes "end" ∷ [])))))) in
+    let lines = marked (line (codes "o" ∷ codes "strength" ∷ [])) (then (fraction_row (codes "d")) (then partition (then (flow_row (codes "y") (length g.ends))
+    (ended (flow_rows (codes "r") 1 g.nodes (length g.ends)) (line (codes "end" ∷ [])))))) in
     made_one strength_text (IsStrengthShape g) spelled (Fits g.nodes (length g.ends)) of_fields fields_of
     (record { same = spelled_is; shape = λ f. shape_of g g.nodes (length g.ends) f refl refl; back = λ f. fits_of g g.nodes (length g.ends) f refl refl; there = λ a. refl }) lines.one

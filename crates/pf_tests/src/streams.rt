@@ -75,22 +75,63 @@ fn few_writes_of_a_long_text(rt: HostRuntime) -> Result<(), Fail> {
     Ok(())
 }
 
+// A reader and a writer of which every call fails so.
 #[derive(Drop)]
-struct Broken;
+struct Broken {
+    kind: ErrorKind,
+}
 
 impl Read for Broken {
     fn read(&mut self, _room: &mut [u8]) -> io::Result<usize> {
-        Err(ErrorKind::Other.into())
+        Err(self.kind.into())
     }
 }
 
 impl Write for Broken {
     fn write(&mut self, _piece: &[u8]) -> io::Result<usize> {
-        Err(ErrorKind::Other.into())
+        Err(self.kind.into())
     }
 
     fn flush(&mut self) -> io::Result<()> {
-        Err(ErrorKind::Other.into())
+        Err(self.kind.into())
+    }
+}
+
+// A reader that gives one byte at a time.
+#[derive(Drop)]
+struct OneByteReader {
+    left: &'static [u8],
+}
+
+impl Read for OneByteReader {
+    fn read(&mut self, room: &mut [u8]) -> io::Result<usize> {
+        match (self.left, room) {
+            ([first, rest @ ..], [slot, ..]) => {
+                *slot = *first;
+                self.left = rest;
+                Ok(1)
+            }
+            _ => Ok(0),
+        }
+    }
+}
+
+// A writer that takes one byte at a time.
+#[derive(Drop)]
+struct OneByteWriter<W: Write> {
+    inner: W,
+}
+
+impl<W: Write> Write for OneByteWriter<W> {
+    fn write(&mut self, piece: &[u8]) -> io::Result<usize> {
+        match piece {
+            [first, ..] => self.inner.write(&[*first]),
+            [] => Ok(0),
+        }
+    }
+
+    fn flush(&mut self) -> io::Result<()> {
+        self.inner.flush()
     }
 }
 
@@ -100,8 +141,19 @@ fn a_source_over_a_reader_of_std(rt: HostRuntime) -> Result<(), Fail> {
     let mut source = StdSource::new(Cursor::new(b"hello".as_slice()));
     let bytes = read_all(alloc, &mut source, 8)?;
     assert_eq!(rt; bytes.as_slice(), b"hello".as_slice());
-    let mut broken = StdSource::new(Broken);
-    assert!(rt; matches!(read_all(alloc, &mut broken, 8), Err(ReadEnd::Failed)));
+    let mut slow = StdSource::new(OneByteReader { left: b"hello" });
+    let bytes = read_all(alloc, &mut slow, 8)?;
+    assert_eq!(rt; bytes.as_slice(), b"hello".as_slice());
+    Ok(())
+}
+
+// An interrupted read is a fault as any other: it is not tried again.
+#[test]
+fn a_source_over_a_reader_that_fails(rt: HostRuntime) -> Result<(), Fail> {
+    for kind in [ErrorKind::Other, ErrorKind::Interrupted] {
+        let mut broken = StdSource::new(Broken { kind });
+        assert!(rt; matches!(read_all(rt.alloc(), &mut broken, 8), Err(ReadEnd::Failed)));
+    }
     Ok(())
 }
 
@@ -112,7 +164,30 @@ fn a_sink_over_a_writer_of_std(rt: HostRuntime) -> Result<(), Fail> {
     assert_eq!(rt; sink.write(b"hello")?, 3);
     sink.flush()?;
     assert!(rt; sink.write(b"lo").is_err());
-    let mut broken = StdSink::new(Broken);
+    assert_eq!(rt; room, *b"hel");
+    Ok(())
+}
+
+#[test]
+fn a_text_goes_out_byte_by_byte(rt: HostRuntime) -> Result<(), Fail> {
+    let mut room = [0u8; 5];
+    let mut sink = StdSink::new(OneByteWriter {
+        inner: room.as_mut_slice(),
+    });
+    let mut printer = Printer::new(&mut sink);
+    printer.word(b"hello")?;
+    printer.finish()?;
+    assert_eq!(rt; room, *b"hello");
+    Ok(())
+}
+
+// An empty piece is not handed to the writer, so that nothing fails.
+#[test]
+fn a_sink_over_a_writer_that_fails(rt: HostRuntime) -> Result<(), Fail> {
+    let mut broken = StdSink::new(Broken {
+        kind: ErrorKind::Other,
+    });
+    assert_eq!(rt; broken.write(b"")?, 0);
     assert!(rt; broken.write(b"hello").is_err());
     assert!(rt; broken.flush().is_err());
     Ok(())

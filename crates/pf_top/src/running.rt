@@ -1,8 +1,8 @@
 // From the words and the bytes of a source to the bytes of a sink and a status.
 ghost use Rattle.std.specs.Prelude.{◌≡◌, ℕ, List, ◌↔◌, ◌≤◌, ◌^◌, Some, None, length};
-ghost use Rattle.pf_top.specs.Job.{named, answer, check, reads};
+ghost use Rattle.pf_top.specs.Job.{named, reads};
 ghost use Rattle.pf_top.specs.Asked.{command_of};
-ghost use Rattle.pf_top.specs.Words.{word_bytes, text_command_of, command_of_request};
+ghost use Rattle.pf_top.specs.Words.{word_bytes, wanting, text_command_of, command_of_request};
 ghost use Rattle.pf_top.specs.Messages.{ErrAfter};
 ghost use Rattle.pf_top.specs.Running.{IsEnd, IsRun};
 
@@ -15,10 +15,10 @@ use crate::commands::partition::Partition;
 use crate::commands::select::Select;
 use crate::commands::share::Share;
 use crate::commands::strength::Strength;
-use crate::job::{answer, check};
+use crate::job::{Checked, answer, check};
 use crate::messages::tell;
 use crate::status::Status;
-use crate::words::{Name, Request, TextRequest, read_words};
+use crate::words::{Name, Request, TextRequest, Wanted, read_words};
 use pf_io::{ReadEnd, Sink, Source, read_all};
 use pf_text::Refusal;
 use std::alloc::Global;
@@ -26,35 +26,42 @@ use std::alloc::Global;
 /// The most bytes of an input.
 const LIMIT: usize = 1 << 29;
 
-// The answer to the job of this name.
-fn answer_named<O: Sink>(name: Name, alloc: Global, bytes: &[u8], out: &mut O) -> Status
+// What is wanted of a job: its answer, or the verdict on one.
+fn give<T: Checked, O: Sink>(
+    job: &T,
+    wanted: Wanted,
+    alloc: Global,
+    bytes: &[u8],
+    out: &mut O,
+) -> Status
     requires { length bytes.now ≤ 2 ^ 29 }
-    ensures { IsEnd O.Sink out.old out.new (answer (named name)) bytes.now result }
+    ensures { IsEnd O.Sink out.old out.new (wanting wanted (T.row_of job.now)) bytes.now result }
 {
-    match name {
-        Name::Curve => answer(&Curve, alloc, bytes, out),
-        Name::Closure => answer(&Closure, alloc, bytes, out),
-        Name::Densest => answer(&Densest, alloc, bytes, out),
-        Name::Strength => answer(&Strength, alloc, bytes, out),
-        Name::Select => answer(&Select, alloc, bytes, out),
-        Name::Partition => answer(&Partition, alloc, bytes, out),
-        Name::Share => answer(&Share, alloc, bytes, out),
+    match wanted {
+        Wanted::Answer => answer(job, alloc, bytes, out),
+        Wanted::Check => check(job, alloc, bytes, out),
     }
 }
 
-// The verdict on an answer to it.
-fn check_named<O: Sink>(name: Name, alloc: Global, bytes: &[u8], out: &mut O) -> Status
+// The same of the job of this name.
+fn give_named<O: Sink>(
+    name: Name,
+    wanted: Wanted,
+    alloc: Global,
+    bytes: &[u8],
+    out: &mut O,
+) -> Status
     requires { length bytes.now ≤ 2 ^ 29 }
-    ensures { IsEnd O.Sink out.old out.new (check (named name)) bytes.now result }
+    ensures { IsEnd O.Sink out.old out.new (wanting wanted (named name)) bytes.now result }
 {
     match name {
-        Name::Curve => check(&Curve, alloc, bytes, out),
-        Name::Closure => check(&Closure, alloc, bytes, out),
-        Name::Densest => check(&Densest, alloc, bytes, out),
-        Name::Strength => check(&Strength, alloc, bytes, out),
-        Name::Select => check(&Select, alloc, bytes, out),
-        Name::Partition => check(&Partition, alloc, bytes, out),
-        Name::Share => check(&Share, alloc, bytes, out),
+        Name::Curve => give(&Curve, wanted, alloc, bytes, out),
+        Name::Closure => give(&Closure, wanted, alloc, bytes, out),
+        Name::Densest => give(&Densest, wanted, alloc, bytes, out),
+        Name::Strength => give(&Strength, wanted, alloc, bytes, out),
+        Name::Select => give(&Select, wanted, alloc, bytes, out),
+        Name::Partition => give(&Partition, wanted, alloc, bytes, out),
+        Name::Share => give(&Share, wanted, alloc, bytes, out),
     }
 }
 
@@ -69,8 +76,7 @@ fn run_request<O: Sink>(alloc: Global, request: &TextRequest, bytes: &[u8], out:
         TextRequest::Trees(job) => answer(job, alloc, bytes, out),
         TextRequest::Reinforce(job) => answer(job, alloc, bytes, out),
         TextRequest::Layers => answer(&Layers, alloc, bytes, out),
-        TextRequest::Answer(name) => answer_named(*name, alloc, bytes, out),
-        TextRequest::Check(name) => check_named(*name, alloc, bytes, out),
+        TextRequest::Named(wanted, name) => give_named(*name, *wanted, alloc, bytes, out),
     }
 }
 

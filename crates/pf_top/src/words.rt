@@ -35,6 +35,15 @@ pub enum Name {
     Share,
 }
 
+/// What is wanted of a job.
+#[derive(Clone, Copy, Debug, PartialEq, Eq)]
+pub enum Wanted {
+    /// Its answer.
+    Answer,
+    /// Whether a text certifies an answer to it.
+    Check,
+}
+
 /// What words ask for of a text.
 #[derive(Drop)]
 pub enum TextRequest {
@@ -48,10 +57,8 @@ pub enum TextRequest {
     Reinforce(Reinforce),
     /// The layers of a graph, or of items that need others.
     Layers,
-    /// The answer to the job of this name.
-    Answer(Name),
-    /// Whether a text certifies an answer to it.
-    Check(Name),
+    /// This of the job of this name.
+    Named(Wanted, Name),
 }
 
 /// What words ask for.
@@ -237,7 +244,7 @@ fn one_word(first: &[u8]) -> Option<Request>
         ≡ option_map command_of_request result }
 {
     match name_of(first) {
-        Some(name) => Some(Request::Text(TextRequest::Answer(name))),
+        Some(name) => Some(Request::Text(TextRequest::Named(Wanted::Answer, name))),
         None => lone_word(first),
     }
 }
@@ -257,7 +264,7 @@ fn check_word(second: &[u8]) -> Option<Request>
     ensures { option_map (λ name. reads (check (named name))) (beside names second.now) ≡ option_map command_of_request result }
 {
     match name_of(second) {
-        Some(name) => Some(Request::Text(TextRequest::Check(name))),
+        Some(name) => Some(Request::Text(TextRequest::Named(Wanted::Check, name))),
         None => None,
     }
 }

@@ -1,7 +1,8 @@
-use Rattle.std.proofs.Common.{sym, ◌∙◌}
+use Rattle.std.proofs.Common.{sym, ap}
+use Rattle.pf_format.proofs.Formats.{adds_as}
 use Rattle.pf_closure.specs.Text.{ratio_text}
 use Rattle.pf_closure.proofs.text.write_ratio.Goals as goal
 
 pub returns : goal.returns
 unfolding ratio_text
-returns g c = rw (sym (c.get-chosen.ensures ∙ c.chosen.ensures), sym (c.get-routing.ensures ∙ c.routing.ensures), sym c.ratio.ensures) c.write_answer.ensures
+returns g c = adds_as c.write_answer.ensures (ap ratio_text (sym c.parts.ensures))

@@ -9,14 +9,14 @@ use Rattle.pf_curve.proofs.between.write_lifted.Goals as goal
 
 pub lift-requires-clause-cut : goal.lift-requires-clause-cut
 lift-requires-clause-cut c =
-    let P : List Bool → Type 0 = λ side. IsNetworkCut (piece_of c.args.piece.now) side in
-    subst P (sym c.as_slice.ensures.value) (cut_of (piece_of c.args.piece.now) c.args.at.now c.args.chosen.now.side.items c.requires.chosen.smallest)
+    let P : List Bool → Type 0 = λ side. IsNetworkCut (piece_of c.args.core.now) side in
+    subst P (sym c.as_slice.ensures.value) (cut_of (piece_of c.args.core.now) c.args.at.now c.args.chosen.now.side.items c.requires.chosen.smallest)
 
 pub overflow_add-a : goal.overflow_add-a
 overflow_add-a c =
-    let P : List Bool → Type 0 = λ side. IsLift c.args.piece.now side c.lift.new.side in
-    let found = line_lifted c.args.piece.now c.net.result.now c.args.at.now c.args.line.now c.args.chosen.now.side.items c.lift.new.side c.args.chosen.now.a c.args.chosen.now.b
-    c.frame.ensures.built c.net.ensures c.requires.rising c.requires.ends c.requires.line c.requires.chosen (subst P c.as_slice.ensures.value c.lift.ensures) in
+    let P : List Bool → Type 0 = λ side. IsLift c.args.core.now side c.lift.new.side in
+    let found = line_lifted c.args.core.now c.whole.result.now c.args.at.now c.args.line.now c.args.chosen.now.side.items c.lift.new.side c.args.chosen.now.a c.args.chosen.now.b
+    c.frame.ensures.built c.whole.ensures c.requires.rising c.requires.ends c.requires.line c.requires.chosen (subst P c.as_slice.ensures.value c.lift.ensures) in
     let e = found.a_is in
     let low = found.bounded.a_low in
     let high = found.bounded.a_high in
@@ -24,9 +24,9 @@ overflow_add-a c =
 
 pub overflow_add-b : goal.overflow_add-b
 overflow_add-b c =
-    let P : List Bool → Type 0 = λ side. IsLift c.args.piece.now side c.lift.new.side in
-    let found = line_lifted c.args.piece.now c.net.result.now c.args.at.now c.args.line.now c.args.chosen.now.side.items c.lift.new.side c.args.chosen.now.a c.args.chosen.now.b
-    c.frame.ensures.built c.net.ensures c.requires.rising c.requires.ends c.requires.line c.requires.chosen (subst P c.as_slice.ensures.value c.lift.ensures) in
+    let P : List Bool → Type 0 = λ side. IsLift c.args.core.now side c.lift.new.side in
+    let found = line_lifted c.args.core.now c.whole.result.now c.args.at.now c.args.line.now c.args.chosen.now.side.items c.lift.new.side c.args.chosen.now.a c.args.chosen.now.b
+    c.frame.ensures.built c.whole.ensures c.requires.rising c.requires.ends c.requires.line c.requires.chosen (subst P c.as_slice.ensures.value c.lift.ensures) in
     let e = found.b_is in
     let low = found.bounded.b_low in
     let high = found.bounded.b_high in
@@ -34,9 +34,9 @@ overflow_add-b c =
 
 pub new-requires : goal.new-requires
 new-requires c =
-    let P : List Bool → Type 0 = λ side. IsLift c.args.piece.now side c.lift.new.side in
-    let found = line_lifted c.args.piece.now c.net.result.now c.args.at.now c.args.line.now c.args.chosen.now.side.items c.lift.new.side c.args.chosen.now.a c.args.chosen.now.b
-    c.frame.ensures.built c.net.ensures c.requires.rising c.requires.ends c.requires.line c.requires.chosen (subst P c.as_slice.ensures.value c.lift.ensures) in
+    let P : List Bool → Type 0 = λ side. IsLift c.args.core.now side c.lift.new.side in
+    let found = line_lifted c.args.core.now c.whole.result.now c.args.at.now c.args.line.now c.args.chosen.now.side.items c.lift.new.side c.args.chosen.now.a c.args.chosen.now.b
+    c.frame.ensures.built c.whole.ensures c.requires.rising c.requires.ends c.requires.line c.requires.chosen (subst P c.as_slice.ensures.value c.lift.ensures) in
     let e = found.a_is in
     let f = found.b_is in
     let bounds = found.bounded in
@@ -55,15 +55,15 @@ new-requires c =
 
 pub returns-clause-smallest : goal.returns-clause-smallest
 returns-clause-smallest c =
-    let P : List Bool → Type 0 = λ side. IsLift c.args.piece.now side c.lift.new.side in
-    smallest_found c.args.piece.now c.net.result.now c.args.at.now c.args.chosen.now.side.items c.lift.new.side c.frame.ensures.built c.net.ensures
+    let P : List Bool → Type 0 = λ side. IsLift c.args.core.now side c.lift.new.side in
+    smallest_found c.args.core.now c.whole.result.now c.args.at.now c.args.chosen.now.side.items c.lift.new.side c.frame.ensures.built c.whole.ensures
     c.requires.rising c.requires.ends c.requires.chosen.smallest (subst P c.as_slice.ensures.value c.lift.ensures)
 
 pub returns-clause-line : goal.returns-clause-line
 returns-clause-line c =
-    let P : List Bool → Type 0 = λ side. IsLift c.args.piece.now side c.lift.new.side in
-    let found = line_lifted c.args.piece.now c.net.result.now c.args.at.now c.args.line.now c.args.chosen.now.side.items c.lift.new.side c.args.chosen.now.a c.args.chosen.now.b
-    c.frame.ensures.built c.net.ensures c.requires.rising c.requires.ends c.requires.line c.requires.chosen (subst P c.as_slice.ensures.value c.lift.ensures) in
+    let P : List Bool → Type 0 = λ side. IsLift c.args.core.now side c.lift.new.side in
+    let found = line_lifted c.args.core.now c.whole.result.now c.args.at.now c.args.line.now c.args.chosen.now.side.items c.lift.new.side c.args.chosen.now.a c.args.chosen.now.b
+    c.frame.ensures.built c.whole.ensures c.requires.rising c.requires.ends c.requires.line c.requires.chosen (subst P c.as_slice.ensures.value c.lift.ensures) in
     let e = found.a_is in
     let f = found.b_is in
     let bounds = found.bounded in
@@ -75,4 +75,4 @@ returns-clause-line c =
     let vb = c.b.ensures.value in
     let first = ap (λ (l : AffineLine). l.a) c.new.ensures in
     let second = ap (λ (l : AffineLine). l.b) c.new.ensures in
-    line_same c.new.result c.args.piece.now.net c.lift.new.side (omega (arith, ints, e, al, ah, va, first)) (omega (arith, ints, f, bl, bh, vb, second))
+    line_same c.new.result c.args.core.now.net c.lift.new.side (omega (arith, ints, e, al, ah, va, first)) (omega (arith, ints, f, bl, bh, vb, second))

@@ -1,21 +1,9 @@
-use Rattle.std.proofs.Common.{◌≡◌, Err, ap, sym}
-use Rattle.std.proofs.lemmas.Result.{err_from_is_err_and}
-use Rattle.pf_lines.specs.declared.errors.AnswerBad.TheVariants.{NotText}
-use Rattle.pf_ratio.proofs.TextLemmas.{shape_at}
-use Rattle.pf_dense.specs.Text.{dense_text}
+use Rattle.pf_format.proofs.Formats.{made_whole, made_refused}
+use Rattle.pf_dense.proofs.SameAnswers.{parts_of, made}
 use Rattle.pf_dense.proofs.text.read_dense.Goals as goal
 
-pub returns-in_err-answer-clause-refused : goal.returns-in_err-answer-clause-refused
-unfolding dense_text
-returns-in_err-answer-clause-refused c = λ e answer shape there.
-    let p = err_from_is_err_and c.from_residual.result c.from_residual.ensures.1 in
-    let same : c.in_err-answer.field-0.0 ≡ NotText = cc in
-    c.in_err-answer.ensures.refused (ap Err same) answer.density answer.chosen answer.charges
-    (shape_at _ _ _ _ _ _ _ (sym c.vertices-count.ensures.value) (sym c.edges-width.ensures) shape) there
+pub returns-in_err-parts : goal.returns-in_err-parts
+returns-in_err-parts c = made_refused {parts = parts_of} c.from_residual.result c.in_err-parts.ensures c.from_residual.ensures.1 (made c.args.graph.now _ _ c.vertices-count.ensures.value c.edges-width.ensures)
 
-pub returns-clause-shape : goal.returns-clause-shape
-returns-clause-shape c = rw c.new.ensures (shape_at _ _ _ _ _ _ _ c.vertices-count.ensures.value c.edges-width.ensures c.in_ok-answer.ensures.shape)
-
-pub returns-clause-text : goal.returns-clause-text
-unfolding dense_text
-returns-clause-text c = rw c.new.ensures c.in_ok-answer.ensures.text
+pub returns : goal.returns
+returns c = made_whole {parts = parts_of} c.in_ok-parts.ensures c.of_parts.ensures (made c.args.graph.now _ _ c.vertices-count.ensures.value c.edges-width.ensures)

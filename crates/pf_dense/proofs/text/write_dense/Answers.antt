@@ -1,7 +1,8 @@
-use Rattle.std.proofs.Common.{sym, ◌∙◌}
+use Rattle.std.proofs.Common.{sym, ap}
+use Rattle.pf_format.proofs.Formats.{adds_as}
 use Rattle.pf_dense.specs.Text.{dense_text}
 use Rattle.pf_dense.proofs.text.write_dense.Goals as goal
 
 pub returns : goal.returns
 unfolding dense_text
-returns g c = rw (sym (c.get-chosen.ensures ∙ c.chosen.ensures), sym (c.get-charges.ensures ∙ c.charges.ensures), sym c.density.ensures) c.write_answer.ensures
+returns g c = adds_as c.write_answer.ensures (ap dense_text (sym c.parts.ensures))

@@ -6,7 +6,7 @@ returns-in_err-value g c = whole_refused c.from_residual.result c.new-rest.ensur
 
 pub returns-in_err-take_end : goal.returns-in_err-take_end
 returns-in_err-take_end g c =
-    whole_longer c.in_err-take_end.field-0.0 c.from_residual-in_err-take_end.result (g.met.F.Format.one c.args.format.now) c.new-rest.ensures c.in_ok-value.ensures c.in_err-take_end.ensures.found
+    whole_longer c.from_residual-in_err-take_end.result (g.met.F.Format.one c.args.format.now) c.new-rest.ensures c.in_ok-value.ensures c.in_err-take_end.ensures.found
     c.from_residual-in_err-take_end.ensures.1
 
 pub returns : goal.returns

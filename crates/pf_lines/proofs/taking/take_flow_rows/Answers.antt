@@ -1,5 +1,6 @@
 use Rattle.std.proofs.Common.{◌∙◌, sym, arith}
 use Rattle.std.proofs.lemmas.Result.{err_from_is_err_and}
+use Rattle.pf_lines.specs.Taking.{IsExcused}
 use Rattle.pf_lines.proofs.ItemsTaken.{items_begin, item_taken, item_refused, items_end}
 use Rattle.pf_lines.proofs.FlowRows.{row_items, rows_stand, first_place}
 use Rattle.pf_lines.proofs.taking.take_flow_rows.Goals as goal
@@ -10,7 +11,7 @@ flows-init c = rw c.new-flows.ensures (items_begin (row_items c.args.word.now c.
 pub returns-in_err-flow-clause-found : goal.returns-in_err-flow-clause-found
 returns-in_err-flow-clause-found c = λ flows rest full each there.
     let p = err_from_is_err_and c.from_residual.result c.from_residual.ensures.1 in
-    rw (p.1, p.2) (item_refused (row_items c.args.word.now c.args.first c.args.width) c.args.count c.args.text.now c.flows.text c.flows.j c.flows.flows c.in_err-flow.field-0.0 c.flows.invariant c.flows-test.true
+    rw (p.1, p.2) (item_refused (row_items c.args.word.now c.args.first c.args.width) c.args.count c.args.text.now c.flows.text c.flows.j c.flows.flows (IsExcused c.in_err-flow.field-0.0) c.flows.invariant c.flows-test.true
     (λ flow later row behind e. c.in_err-flow.ensures.found flow later row e) flows rest
     (rows_stand c.args.word.now c.args.first c.args.width c.args.count c.args.text.now flows rest full each there))
 

@@ -1,6 +1,5 @@
 use Rattle.std.proofs.Common.{◌++◌, ◌∷◌, [], refl, sym, ◌∙◌}
 use Rattle.std.specs.Fmt.{signed_decimal}
-use Rattle.std.proofs.lemmas.Result.{err_from_is_err_and}
 use Rattle.pf_text.specs.Spelling.{spaced}
 use Rattle.pf_text.proofs.SpellingLemmas.{line_then}
 use Rattle.pf_lines.proofs.RowsTaken.{behind_head, stops_fields, line_taken, fraction_fields}
@@ -8,23 +7,20 @@ use Rattle.pf_lines.proofs.taking.take_fraction_row.Goals as goal
 
 pub returns-in_err-take_head-clause-found : goal.returns-in_err-take_head-clause-found
 returns-in_err-take_head-clause-found c = λ at rest shape there.
-    let p = err_from_is_err_and c.from_residual.result c.from_residual.ensures.1 in
     let fields = signed_decimal at.p ∷ signed_decimal at.q ∷ [] in
-    rw (p.1, p.2) (c.in_err-take_head.ensures.found (spaced fields ++ (10 ∷ rest)) (stops_fields fields (10 ∷ rest) refl) (there ∙ line_then c.args.word.now c.args.indices.now fields rest))
+    absurd (c.in_err-take_head.ensures.found (spaced fields ++ (10 ∷ rest)) (stops_fields fields (10 ∷ rest) refl) (there ∙ line_then c.args.word.now c.args.indices.now fields rest))
 
 pub returns-in_err-at-clause-found : goal.returns-in_err-at-clause-found
 returns-in_err-at-clause-found c = λ at rest shape there.
-    let p = err_from_is_err_and c.from_residual-in_err-at.result c.from_residual-in_err-at.ensures.1 in
     let fields = signed_decimal at.p ∷ signed_decimal at.q ∷ [] in
     let behind = behind_head c.args.word.now c.args.indices.now fields rest c.args.text.now c.take_head.new.text c.in_ok-take_head.ensures.found there in
-    rw (p.1, p.2) (c.in_err-at.ensures.found at (10 ∷ rest) shape refl (behind ∙ fraction_fields at (10 ∷ rest)))
+    absurd (c.in_err-at.ensures.found at (10 ∷ rest) shape refl (behind ∙ fraction_fields at (10 ∷ rest)))
 
 pub returns-in_err-take_word-clause-found : goal.returns-in_err-take_word-clause-found
 returns-in_err-take_word-clause-found c = λ at rest shape there.
-    let p = err_from_is_err_and c.from_residual-in_err-take_word.result c.from_residual-in_err-take_word.ensures.1 in
     let fields = signed_decimal at.p ∷ signed_decimal at.q ∷ [] in
     let behind = behind_head c.args.word.now c.args.indices.now fields rest c.args.text.now c.take_head.new.text c.in_ok-take_head.ensures.found there in
-    rw (p.1, p.2) (c.in_err-take_word.ensures.found rest (c.in_ok-at.ensures.found at (10 ∷ rest) shape refl (behind ∙ fraction_fields at (10 ∷ rest))).1)
+    absurd (c.in_err-take_word.ensures.found rest (c.in_ok-at.ensures.found at (10 ∷ rest) shape refl (behind ∙ fraction_fields at (10 ∷ rest))).1)
 
 pub returns-clause-taken : goal.returns-clause-taken
 returns-clause-taken c =

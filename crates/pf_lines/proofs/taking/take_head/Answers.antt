@@ -1,20 +1,17 @@
 use Rattle.std.proofs.Common.{◌++◌, map, ◌∙◌, append_assoc}
 use Rattle.std.specs.Fmt.{decimal}
-use Rattle.std.proofs.lemmas.Result.{err_from_is_err_and}
 use Rattle.pf_text.specs.Spelling.{spaced}
 use Rattle.pf_lines.proofs.taking.take_head.Goals as goal
 
 pub returns-in_err-take_word-clause-found : goal.returns-in_err-take_word-clause-found
 returns-in_err-take_word-clause-found c = λ rest stops there.
-    let p = err_from_is_err_and c.from_residual.result c.from_residual.ensures.1 in
     let later = spaced (map decimal c.args.indices.now) in
-    rw (p.1, p.2) (c.in_err-take_word.ensures.found (later ++ rest) (there ∙ append_assoc c.args.word.now later rest))
+    absurd (c.in_err-take_word.ensures.found (later ++ rest) (there ∙ append_assoc c.args.word.now later rest))
 
 pub returns-in_err-take_indices-clause-found : goal.returns-in_err-take_indices-clause-found
 returns-in_err-take_indices-clause-found c = λ rest stops there.
-    let p = err_from_is_err_and c.from_residual-in_err-take_indices.result c.from_residual-in_err-take_indices.ensures.1 in
     let later = spaced (map decimal c.args.indices.now) in
-    rw (p.1, p.2) (c.in_err-take_indices.ensures.found rest stops (c.in_ok-take_word.ensures.found (later ++ rest) (there ∙ append_assoc c.args.word.now later rest)))
+    absurd (c.in_err-take_indices.ensures.found rest stops (c.in_ok-take_word.ensures.found (later ++ rest) (there ∙ append_assoc c.args.word.now later rest)))
 
 pub returns-clause-found : goal.returns-clause-found
 returns-clause-found c = λ rest stops there.

@@ -1,6 +1,5 @@
 use Rattle.std.proofs.Common.{◌++◌, ◌∷◌, ℕ, ◌+◌, List, take, drop, map, get_or, sym, ap, ◌∙◌, append_assoc}
 use Rattle.std.specs.Fmt.{decimal}
-use Rattle.std.proofs.lemmas.Result.{err_from_is_err_and}
 use Rattle.pf_text.specs.Spelling.{spaced}
 use Rattle.pf_text.proofs.SpellingLemmas.{spaced_more}
 use Rattle.pf_lines.proofs.RowsTaken.{index_then, stops_fields}
@@ -8,9 +7,8 @@ use Rattle.pf_lines.proofs.taking.take_indices.Goals as goal
 
 pub returns-in_err-take_index-clause-found : goal.returns-in_err-take_index-clause-found
 returns-in_err-take_index-clause-found c = λ rest stops there.
-    let p = err_from_is_err_and c.from_residual.result c.from_residual.ensures.1 in
     let later = map decimal (drop (c.items.index-index + 1) c.args.indices.now) in
-    rw (p.1, p.2) (c.in_err-take_index.ensures.found (spaced later ++ rest) (stops_fields later rest stops)
+    absurd (c.in_err-take_index.ensures.found (spaced later ++ rest) (stops_fields later rest stops)
     (c.items.invariant.found rest stops there ∙ index_then c.args.indices.now c.items.index-index 0 rest c.items-test.true))
 
 pub items-preserved : goal.items-preserved

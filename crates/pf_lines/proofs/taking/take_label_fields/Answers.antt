@@ -3,8 +3,6 @@ use Rattle.std.specs.Prelude.{ℤ, pos}
 use Rattle.std.specs.Int.{w128}
 use Rattle.std.specs.Fmt.{signed_decimal}
 use Rattle.std.proofs.lemmas.Int.{ints}
-use Rattle.std.proofs.lemmas.Result.{err_from_is_err_and}
-use Rattle.pf_lines.specs.Taking.{IsExcused}
 use Rattle.pf_lines.proofs.ItemsTaken.{items_begin, item_taken, item_refused, items_end}
 use Rattle.pf_lines.proofs.RowsTaken.{label_items, labels_stand, label_found}
 use Rattle.pf_lines.proofs.taking.take_label_fields.Goals as goal
@@ -14,11 +12,10 @@ labels-init c = rw c.in_ok-labels.ensures.items (items_begin (label_items c.args
 
 pub returns-in_err-number-clause-found : goal.returns-in_err-number-clause-found
 returns-in_err-number-clause-found c = λ labels rest row stops there.
-    let p = err_from_is_err_and c.from_residual-in_err-number.result c.from_residual-in_err-number.ensures.1 in
     let most : to_z w128 (of_z w128 c.from.result) ≡ pos c.args.most = omega (arith, ints, c.from.ensures) in
     let found = rw most at c.in_err-number.ensures.found in
-    rw (p.1, p.2) (item_refused (label_items c.args.most) c.args.width c.args.text.now c.labels.text c.labels._i c.labels.labels.items c.in_err-number.field-0.0 c.labels.invariant c.labels-test.true
-    (label_found c.args.most (λ n later. IsExcused c.in_err-number.field-0.0) c.labels.text found) labels rest (labels_stand c.args.width c.args.most c.args.text.now labels rest row stops there))
+    absurd (item_refused (label_items c.args.most) c.args.width c.args.text.now c.labels.text c.labels._i c.labels.labels.items ⊥ c.labels.invariant c.labels-test.true
+    (label_found c.args.most (λ n later. ⊥) c.labels.text found) labels rest (labels_stand c.args.width c.args.most c.args.text.now labels rest row stops there))
 
 pub labels-preserved : goal.labels-preserved
 labels-preserved c =

@@ -2,7 +2,6 @@ use Rattle.std.proofs.Common.{arith}
 use Rattle.std.specs.Prelude.{FitsSigned}
 use Rattle.std.specs.Int.{w128}
 use Rattle.std.proofs.lemmas.Int.{to_z-of_z}
-use Rattle.std.proofs.lemmas.Result.{err_from_is_err_and}
 use Rattle.pf_lines.proofs.SpellingLemmas.{fits_between}
 use Rattle.pf_lines.proofs.ItemsTaken.{items_begin, item_taken, item_refused, items_end}
 use Rattle.pf_lines.proofs.RowsTaken.{number_items, numbers_stand}
@@ -13,10 +12,9 @@ numbers-init c = rw (c.in_ok-numbers.ensures.items, to_z-of_z w128 c.args.min c.
 
 pub returns-in_err-number-clause-found : goal.returns-in_err-number-clause-found
 returns-in_err-number-clause-found c = λ numbers rest row stops there.
-    let p = err_from_is_err_and c.from_residual-in_err-number.result c.from_residual-in_err-number.ensures.1 in
     let found = rw (to_z-of_z w128 c.args.min c.ranges.min, to_z-of_z w128 c.args.max c.ranges.max) at c.in_err-number.ensures.found in
     let so_far = rw (to_z-of_z w128 c.args.min c.ranges.min, to_z-of_z w128 c.args.max c.ranges.max) at c.numbers.invariant in
-    rw (p.1, p.2) (item_refused (number_items c.args.min c.args.max) c.args.width c.args.text.now c.numbers.text c.numbers._i c.numbers.numbers.items c.in_err-number.field-0.0 so_far c.numbers-test.true
+    absurd (item_refused (number_items c.args.min c.args.max) c.args.width c.args.text.now c.numbers.text c.numbers._i c.numbers.numbers.items ⊥ so_far c.numbers-test.true
     (λ n later is ok e. found n later is.low is.high ok e) numbers rest (numbers_stand c.args.width c.args.min c.args.max c.args.text.now numbers rest row stops there))
 
 pub numbers-preserved : goal.numbers-preserved

@@ -6,8 +6,7 @@ use Rattle.pf_lines.proofs.taking.take_rest_side.Goals as goal
 
 pub returns-in_err-take_word-clause-found : goal.returns-in_err-take_word-clause-found
 returns-in_err-take_word-clause-found c = λ side rest full there.
-    let p = err_from_is_err_and c.from_residual.result c.from_residual.ensures.1 in
-    rw (p.1, p.2) (c.in_err-take_word.ensures.found (side_text side ++ (10 ∷ rest)) (there ∙ side_parts side rest))
+    absurd (c.in_err-take_word.ensures.found (side_text side ++ (10 ∷ rest)) (there ∙ side_parts side rest))
 
 pub returns-in_err-side-clause-found : goal.returns-in_err-side-clause-found
 returns-in_err-side-clause-found c = λ side rest full there.
@@ -17,9 +16,8 @@ returns-in_err-side-clause-found c = λ side rest full there.
 
 pub returns-in_err-take_word-2-clause-found : goal.returns-in_err-take_word-2-clause-found
 returns-in_err-take_word-2-clause-found c = λ side rest full there.
-    let p = err_from_is_err_and c.from_residual-in_err-take_word-2.result c.from_residual-in_err-take_word-2.ensures.1 in
     let word = c.in_ok-take_word.ensures.found (side_text side ++ (10 ∷ rest)) (there ∙ side_parts side rest) in
-    rw (p.1, p.2) (c.in_err-take_word-2.ensures.found rest (c.in_ok-side.ensures.found side (10 ∷ rest) full word).1)
+    absurd (c.in_err-take_word-2.ensures.found rest (c.in_ok-side.ensures.found side (10 ∷ rest) full word).1)
 
 pub returns-clause-taken : goal.returns-clause-taken
 returns-clause-taken c =

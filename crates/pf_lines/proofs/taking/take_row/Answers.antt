@@ -10,9 +10,8 @@ use Rattle.pf_lines.proofs.taking.take_row.Goals as goal
 
 pub returns-in_err-take_head-clause-found : goal.returns-in_err-take_head-clause-found
 returns-in_err-take_head-clause-found c = λ numbers rest row there.
-    let p = err_from_is_err_and c.from_residual.result c.from_residual.ensures.1 in
     let fields = map signed_decimal numbers in
-    rw (p.1, p.2) (c.in_err-take_head.ensures.found (spaced fields ++ (10 ∷ rest)) (stops_fields fields (10 ∷ rest) refl) (there ∙ line_then c.args.word.now c.args.indices.now fields rest))
+    absurd (c.in_err-take_head.ensures.found (spaced fields ++ (10 ∷ rest)) (stops_fields fields (10 ∷ rest) refl) (there ∙ line_then c.args.word.now c.args.indices.now fields rest))
 
 pub returns-in_err-numbers-clause-found : goal.returns-in_err-numbers-clause-found
 returns-in_err-numbers-clause-found c = λ numbers rest row there.
@@ -23,10 +22,9 @@ returns-in_err-numbers-clause-found c = λ numbers rest row there.
 
 pub returns-in_err-take_word-clause-found : goal.returns-in_err-take_word-clause-found
 returns-in_err-take_word-clause-found c = λ numbers rest row there.
-    let p = err_from_is_err_and c.from_residual-in_err-take_word.result c.from_residual-in_err-take_word.ensures.1 in
     let found = rw (to_z-of_z w128 c.args.min c.ranges.min, to_z-of_z w128 c.args.max c.ranges.max) at c.in_ok-numbers.ensures.found in
     let behind = behind_head c.args.word.now c.args.indices.now (map signed_decimal numbers) rest c.args.text.now c.take_head.new.text c.in_ok-take_head.ensures.found there in
-    rw (p.1, p.2) (c.in_err-take_word.ensures.found rest (found numbers (10 ∷ rest) row refl behind).1)
+    absurd (c.in_err-take_word.ensures.found rest (found numbers (10 ∷ rest) row refl behind).1)
 
 pub returns-clause-taken : goal.returns-clause-taken
 returns-clause-taken c =

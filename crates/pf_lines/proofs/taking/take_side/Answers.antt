@@ -1,5 +1,4 @@
 use Rattle.std.proofs.Common.{◌≡◌, ◌++◌, ◌∷◌, [], ◌<◌, arith}
-use Rattle.std.proofs.lemmas.Result.{err_from_is_err_and}
 use Rattle.pf_lines.proofs.ItemsTaken.{items_begin, item_taken, item_refused, items_end}
 use Rattle.pf_lines.proofs.RowsTaken.{side_items, side_stands}
 use Rattle.pf_lines.proofs.taking.take_side.Goals as goal
@@ -9,9 +8,8 @@ nodes-init c = rw c.in_ok-items.ensures.items (items_begin side_items c.args.nod
 
 pub returns-in_err-inside-clause-found : goal.returns-in_err-inside-clause-found
 returns-in_err-inside-clause-found c = λ side rest full there.
-    let p = err_from_is_err_and c.from_residual-in_err-inside.result c.from_residual-in_err-inside.ensures.1 in
     let low : c.nodes.counter < c.args.nodes = omega arith in
-    rw (p.1, p.2) (item_refused side_items c.args.nodes c.args.text.now c.nodes.text c.nodes.counter c.nodes.items.items c.in_err-inside.field-0.0 c.nodes.invariant low
+    absurd (item_refused side_items c.args.nodes c.args.text.now c.nodes.text c.nodes.counter c.nodes.items.items ⊥ c.nodes.invariant low
     (λ inside later is ok e. c.in_err-inside.ensures.found inside later e) side rest (side_stands c.args.nodes c.args.text.now side rest full there))
 
 pub nodes-preserved : goal.nodes-preserved

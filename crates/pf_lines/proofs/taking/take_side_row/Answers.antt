@@ -6,9 +6,8 @@ use Rattle.pf_lines.proofs.taking.take_side_row.Goals as goal
 
 pub returns-in_err-take_head-clause-found : goal.returns-in_err-take_head-clause-found
 returns-in_err-take_head-clause-found c = λ side rest full there.
-    let p = err_from_is_err_and c.from_residual.result c.from_residual.ensures.1 in
     let fields = side_text side ∷ [] in
-    rw (p.1, p.2) (c.in_err-take_head.ensures.found (rest_of_line fields ++ rest) refl (there ∙ line_rest c.args.word.now c.args.indices.now fields rest))
+    absurd (c.in_err-take_head.ensures.found (rest_of_line fields ++ rest) refl (there ∙ line_rest c.args.word.now c.args.indices.now fields rest))
 
 pub returns-in_err-side-clause-found : goal.returns-in_err-side-clause-found
 returns-in_err-side-clause-found c = λ side rest full there.

@@ -1,7 +1,6 @@
 use Rattle.std.proofs.Common.{◌++◌, ◌∷◌, [], refl, sym, ap, ◌∙◌, ℕ, List, arith}
 use Rattle.std.specs.Fmt.{signed_decimal}
 use Rattle.std.proofs.lemmas.Int.{ints}
-use Rattle.std.proofs.lemmas.Result.{err_from_is_err_and}
 use Rattle.pf_rat.proofs.Products.{comes_back}
 use Rattle.pf_text.specs.Spelling.{spaced, fraction_text}
 use Rattle.pf_text.proofs.SpellingLemmas.{line_then}
@@ -10,33 +9,29 @@ use Rattle.pf_lines.proofs.taking.take_valued_row.Goals as goal
 
 pub returns-in_err-take_head-clause-found : goal.returns-in_err-take_head-clause-found
 returns-in_err-take_head-clause-found c = λ point rest shape there.
-    let p = err_from_is_err_and c.from_residual.result c.from_residual.ensures.1 in
     let fields = signed_decimal point.at.p ∷ signed_decimal point.at.q ∷ signed_decimal point.value ∷ [] in
-    rw (p.1, p.2) (c.in_err-take_head.ensures.found (spaced fields ++ (10 ∷ rest)) (stops_fields fields (10 ∷ rest) refl) (there ∙ line_then c.args.word.now c.args.indices.now fields rest))
+    absurd (c.in_err-take_head.ensures.found (spaced fields ++ (10 ∷ rest)) (stops_fields fields (10 ∷ rest) refl) (there ∙ line_then c.args.word.now c.args.indices.now fields rest))
 
 pub returns-in_err-at-clause-found : goal.returns-in_err-at-clause-found
 returns-in_err-at-clause-found c = λ point rest shape there.
-    let p = err_from_is_err_and c.from_residual-in_err-at.result c.from_residual-in_err-at.ensures.1 in
     let fields = signed_decimal point.at.p ∷ signed_decimal point.at.q ∷ signed_decimal point.value ∷ [] in
     let head = behind_head c.args.word.now c.args.indices.now fields rest c.args.text.now c.take_head.new.text c.in_ok-take_head.ensures.found there in
-    rw (p.1, p.2) (c.in_err-at.ensures.found point.at ((32 ∷ signed_decimal point.value) ++ (10 ∷ rest)) shape.at refl (head ∙ valued_fields point.at point.value (10 ∷ rest)))
+    absurd (c.in_err-at.ensures.found point.at ((32 ∷ signed_decimal point.value) ++ (10 ∷ rest)) shape.at refl (head ∙ valued_fields point.at point.value (10 ∷ rest)))
 
 pub returns-in_err-value-clause-found : goal.returns-in_err-value-clause-found
 returns-in_err-value-clause-found c = λ point rest shape there.
-    let p = err_from_is_err_and c.from_residual-in_err-value.result c.from_residual-in_err-value.ensures.1 in
     let fields = signed_decimal point.at.p ∷ signed_decimal point.at.q ∷ signed_decimal point.value ∷ [] in
     let head = behind_head c.args.word.now c.args.indices.now fields rest c.args.text.now c.take_head.new.text c.in_ok-take_head.ensures.found there in
     let at = c.in_ok-at.ensures.found point.at ((32 ∷ signed_decimal point.value) ++ (10 ∷ rest)) shape.at refl (head ∙ valued_fields point.at point.value (10 ∷ rest)) in
-    rw (p.1, p.2) (c.in_err-value.ensures.found point.value (10 ∷ rest) shape.value refl at.1)
+    absurd (c.in_err-value.ensures.found point.value (10 ∷ rest) shape.value refl at.1)
 
 pub returns-in_err-take_word-clause-found : goal.returns-in_err-take_word-clause-found
 returns-in_err-take_word-clause-found c = λ point rest shape there.
-    let p = err_from_is_err_and c.from_residual-in_err-take_word.result c.from_residual-in_err-take_word.ensures.1 in
     let fields = signed_decimal point.at.p ∷ signed_decimal point.at.q ∷ signed_decimal point.value ∷ [] in
     let head = behind_head c.args.word.now c.args.indices.now fields rest c.args.text.now c.take_head.new.text c.in_ok-take_head.ensures.found there in
     let at = c.in_ok-at.ensures.found point.at ((32 ∷ signed_decimal point.value) ++ (10 ∷ rest)) shape.at refl (head ∙ valued_fields point.at point.value (10 ∷ rest)) in
     let value = c.in_ok-value.ensures.found point.value (10 ∷ rest) shape.value refl at.1 in
-    rw (p.1, p.2) (c.in_err-take_word.ensures.found rest value.1)
+    absurd (c.in_err-take_word.ensures.found rest value.1)
 
 pub returns-clause-taken : goal.returns-clause-taken
 returns-clause-taken c =

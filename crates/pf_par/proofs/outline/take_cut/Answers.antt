@@ -2,20 +2,17 @@ use Rattle.std.proofs.Common.{◌≡◌, ◌∙◌, sym, ap, arith}
 use Rattle.std.proofs.lemmas.Int.{ints}
 use Rattle.std.proofs.lemmas.Result.{err_from_is_err_and}
 use Rattle.pf_model.specs.Network.{cut_a, cut_b}
-use Rattle.pf_lines.specs.Taking.{IsExcused}
 use Rattle.pf_par.proofs.OutlineLemmas.{first_number, second_number, both_numbers, told, not_told, cut_taken}
 use Rattle.pf_par.proofs.outline.take_cut.Goals as goal
 
 pub returns-in_err-a-clause-found : goal.returns-in_err-a-clause-found
 returns-in_err-a-clause-found c = λ side rest cut e.
-    let p = err_from_is_err_and c.from_residual.result c.from_residual.ensures.1 in
-    rw (p.1, p.2) (first_number c.args.net.now side rest c.args.text.now (λ n later. IsExcused c.in_err-a.field-0.0) c.frame.ensures.built c.in_err-a.ensures.found e)
+    absurd (first_number c.args.net.now side rest c.args.text.now (λ n later. ⊥) c.frame.ensures.built c.in_err-a.ensures.found e)
 
 pub returns-in_err-b-clause-found : goal.returns-in_err-b-clause-found
 returns-in_err-b-clause-found c = λ side rest cut e.
-    let p = err_from_is_err_and c.from_residual-in_err-b.result c.from_residual-in_err-b.ensures.1 in
     let first = first_number c.args.net.now side rest c.args.text.now (λ n later. (c.in_ok-a.a ≡ n) × (c.take_number.new.text ≡ later)) c.frame.ensures.built c.in_ok-a.ensures.found e in
-    rw (p.1, p.2) (second_number c.args.net.now side rest c.take_number.new.text (λ n later. IsExcused c.in_err-b.field-0.0) c.frame.ensures.built c.in_err-b.ensures.found first.1)
+    absurd (second_number c.args.net.now side rest c.take_number.new.text (λ n later. ⊥) c.frame.ensures.built c.in_err-b.ensures.found first.1)
 
 pub returns-in_err-side-clause-found : goal.returns-in_err-side-clause-found
 returns-in_err-side-clause-found c = λ side rest cut e.

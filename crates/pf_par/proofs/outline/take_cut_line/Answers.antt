@@ -8,8 +8,7 @@ use Rattle.pf_par.proofs.outline.take_cut_line.Goals as goal
 
 pub returns-in_err-take_head-clause-found : goal.returns-in_err-take_head-clause-found
 returns-in_err-take_head-clause-found c = λ side rest cut e.
-    let p = err_from_is_err_and c.from_residual.result c.from_residual.ensures.1 in
-    rw (p.1, p.2) (c.in_err-take_head.ensures.found (rest_of_line (cut_fields c.args.net.now side) ++ rest) refl (e ∙ cut_line_parts c.args.net.now c.args.i side rest))
+    absurd (c.in_err-take_head.ensures.found (rest_of_line (cut_fields c.args.net.now side) ++ rest) refl (e ∙ cut_line_parts c.args.net.now c.args.i side rest))
 
 pub returns-in_err-side-clause-found : goal.returns-in_err-side-clause-found
 returns-in_err-side-clause-found c = λ side rest cut e.

@@ -9,9 +9,8 @@ use Rattle.pf_par.proofs.outline.take_outline.Goals as goal
 
 pub returns-in_err-count-clause-found : goal.returns-in_err-count-clause-found
 returns-in_err-count-clause-found c = λ o rest shape e.
-    let p = err_from_is_err_and c.from_residual.result c.from_residual.ensures.1 in
     let points = points_outline c.args.net.now o.cuts o.points o.values in
-    rw (p.1, p.2) (c.in_err-count.ensures.found (length o.cuts) (points ++ rest) shape.some (points_bytes c.args.net.now o rest shape) (e ∙ append_assoc (line (codes "k" ∷ decimal (length o.cuts) ∷ [])) points rest))
+    absurd (c.in_err-count.ensures.found (length o.cuts) (points ++ rest) shape.some (points_bytes c.args.net.now o rest shape) (e ∙ append_assoc (line (codes "k" ∷ decimal (length o.cuts) ∷ [])) points rest))
 
 pub returns-in_err-outline-clause-found : goal.returns-in_err-outline-clause-found
 returns-in_err-outline-clause-found c = λ o rest shape e.

@@ -1,14 +1,14 @@
 use Rattle.std.proofs.Common.{◌++◌, sym, ◌∙◌, arith}
 use Rattle.std.proofs.lemmas.Result.{err_from_is_err_and}
+use Rattle.pf_lines.specs.Taking.{IsExcused}
 use Rattle.pf_lines.proofs.PartsTaken.{parts_begin, part_taken, part_refused, parts_end}
 use Rattle.pf_par.proofs.SegmentsTaken.{segment_lines, outline_parts, split_of, text_taken, shape_taken}
 use Rattle.pf_par.proofs.outline.take_points.Goals as goal
 
 pub returns-in_err-first-clause-found : goal.returns-in_err-first-clause-found
 returns-in_err-first-clause-found c = λ o rest shape full e.
-    let p = err_from_is_err_and c.from_residual.result c.from_residual.ensures.1 in
     let s = split_of c.args.net.now c.args.count c.args.text.now rest o.points o.cuts o.values shape full e in
-    rw (p.1, p.2) (c.in_err-first.ensures.found s.first (segment_lines c.args.net.now 0 s.segments ++ rest) s.stand.shape s.stand.text)
+    absurd (c.in_err-first.ensures.found s.first (segment_lines c.args.net.now 0 s.segments ++ rest) s.stand.shape s.stand.text)
 
 pub segments-init : goal.segments-init
 segments-init c =
@@ -19,7 +19,7 @@ pub returns-in_err-segment-clause-found : goal.returns-in_err-segment-clause-fou
 returns-in_err-segment-clause-found c = λ o rest shape full e.
     let p = err_from_is_err_and c.from_residual-in_err-segment.result c.from_residual-in_err-segment.ensures.1 in
     let s = split_of c.args.net.now c.args.count c.args.text.now rest o.points o.cuts o.values shape full e in
-    rw (p.1, p.2) (part_refused (outline_parts c.args.net.now) c.args.count c.args.text.now c.segments.text c.segments.i c.segments.outline c.segments.invariant c.in_err-segment.field-0.0 c.segments-test.true
+    rw (p.1, p.2) (part_refused (outline_parts c.args.net.now) c.args.count c.args.text.now c.segments.text c.segments.i c.segments.outline c.segments.invariant (IsExcused c.in_err-segment.field-0.0) c.segments-test.true
     (λ segment later is behind there. c.in_err-segment.ensures.found segment later is there) s.first s.segments rest s.stand)
 
 pub segments-preserved : goal.segments-preserved

@@ -1,16 +1,14 @@
 use Rattle.std.proofs.Common.{◌++◌, ◌∙◌, append_assoc}
-use Rattle.std.proofs.lemmas.Result.{err_from_is_err_and}
 use Rattle.pf_par.specs.Outline.{cut_line, point_line}
 use Rattle.pf_par.proofs.OutlineLemmas.{same_segment}
 use Rattle.pf_par.proofs.outline.take_segment.Goals as goal
 
 pub returns-in_err-point-clause-found : goal.returns-in_err-point-clause-found
 returns-in_err-point-clause-found c = λ segment rest shape e.
-    let p = err_from_is_err_and c.from_residual-in_err-point.result c.from_residual-in_err-point.ensures.1 in
     let cut = cut_line c.args.net.now c.args.i segment.side in
     let point = point_line c.args.i segment.point in
     let side = c.in_ok-side.ensures.found segment.side (point ++ rest) shape.cut (e ∙ append_assoc cut point rest) in
-    rw (p.1, p.2) (c.in_err-point.ensures.found segment.point rest shape.point side.1)
+    absurd (c.in_err-point.ensures.found segment.point rest shape.point side.1)
 
 pub returns-clause-found : goal.returns-clause-found
 returns-clause-found c = λ segment rest shape e.

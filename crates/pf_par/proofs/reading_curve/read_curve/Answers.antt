@@ -16,7 +16,7 @@ returns-in_err-take_end-clause-refused c = λ e curve shape there.
     let net = c.args.net.now in
     let front = alone c.new-rest.ensures (there ∙ curve_text_parts net curve) in
     let found = c.in_ok-outline.ensures.found (parts_of net curve) [] (parts_shape net curve c.frame.ensures.built.limits.arcs shape) front in
-    not_refused c.in_err-take_end.field-0.0 c.from_residual-in_err-take_end.result c.from_residual-in_err-take_end.ensures.1 e (c.in_err-take_end.ensures.found found.1)
+    absurd (c.in_err-take_end.ensures.found found.1)
 
 pub returns-then-not-values_agree-clause-refused : goal.returns-then-not-values_agree-clause-refused
 returns-then-not-values_agree-clause-refused c = λ e curve shape there.

@@ -1,5 +1,6 @@
 use Rattle.std.proofs.Common.{arith}
 use Rattle.std.proofs.lemmas.Result.{err_from_is_err_and}
+use Rattle.pf_lines.specs.Taking.{IsExcused}
 use Rattle.pf_lines.proofs.ItemsTaken.{item_refused}
 use Rattle.pf_principal.proofs.RowLemmas.{level_items, levels_stand, levels_begin, levels_more, levels_taken, levels_shape, levels_end}
 use Rattle.pf_principal.specs.Text.{levels_rows}
@@ -17,7 +18,7 @@ pub returns-in_err-take_level-clause-found : goal.returns-in_err-take_level-clau
 returns-in_err-take_level-clause-found c = λ vectors splits rest tables there.
     let p = err_from_is_err_and c.from_residual.result c.from_residual.ensures.1 in
     let i = c.levels.invariant in
-    rw (p.1, p.2) (item_refused (level_items c.args.graph.now) c.args.count c.args.text.now c.levels.text c.levels.j i.got c.in_err-take_level.field-0.0 i.has c.levels-test.true
+    rw (p.1, p.2) (item_refused (level_items c.args.graph.now) c.args.count c.args.text.now c.levels.text c.levels.j i.got (IsExcused c.in_err-take_level.field-0.0) i.has c.levels-test.true
     (λ rows later shape behind e. c.in_err-take_level.ensures.found rows later shape e) (levels_rows c.args.graph.now.nodes vectors splits) rest
     (levels_stand c.args.graph.now c.args.count c.args.text.now vectors splits rest tables there))
 

@@ -1,5 +1,6 @@
 use Rattle.std.proofs.Common.{arith, ap, ◌∙◌, ◌++◌}
 use Rattle.std.proofs.lemmas.Result.{err_from_is_err_and}
+use Rattle.pf_lines.specs.Taking.{IsExcused}
 use Rattle.pf_lines.proofs.ItemsTaken.{item_refused, items_end}
 use Rattle.pf_principal.proofs.RowLemmas.{split_items, splits_stand, added_begins, added_more}
 use Rattle.pf_principal.proofs.rows.take_splits.Goals as goal
@@ -10,7 +11,7 @@ roots-init c = added_begins c.args.graph.now c.args.j c.args.count c.args.splits
 pub returns-in_err-row-clause-found : goal.returns-in_err-row-clause-found
 returns-in_err-row-clause-found c = λ rows rest full each there.
     let p = err_from_is_err_and c.from_residual.result c.from_residual.ensures.1 in
-    rw (p.1, p.2) (item_refused (split_items c.args.graph.now c.args.j) c.args.count c.args.text.now c.roots.text c.roots.r c.roots.invariant.rows c.in_err-row.field-0.0 c.roots.invariant.has c.roots-test.true
+    rw (p.1, p.2) (item_refused (split_items c.args.graph.now c.args.j) c.args.count c.args.text.now c.roots.text c.roots.r c.roots.invariant.rows (IsExcused c.in_err-row.field-0.0) c.roots.invariant.has c.roots-test.true
     (λ row later sized behind e. c.in_err-row.ensures.found row later sized e) rows rest (splits_stand c.args.graph.now c.args.j c.args.count c.args.text.now rows rest full each there))
 
 pub roots-preserved : goal.roots-preserved

@@ -1,5 +1,6 @@
 use Rattle.std.proofs.Common.{arith}
 use Rattle.std.proofs.lemmas.Result.{err_from_is_err_and}
+use Rattle.pf_lines.specs.Taking.{IsExcused}
 use Rattle.pf_lines.proofs.ItemsTaken.{items_begin, item_taken, item_refused, items_end}
 use Rattle.pf_principal.proofs.StepLemmas.{step_items, steps_stand}
 use Rattle.pf_principal.proofs.steps.take_steps.Goals as goal
@@ -10,7 +11,7 @@ steps-init c = rw c.new-steps.ensures (items_begin (step_items c.args.vertices) 
 pub returns-in_err-step-clause-found : goal.returns-in_err-step-clause-found
 returns-in_err-step-clause-found c = λ steps rest full each there.
     let p = err_from_is_err_and c.from_residual.result c.from_residual.ensures.1 in
-    rw (p.1, p.2) (item_refused (step_items c.args.vertices) c.args.count c.args.text.now c.steps.text c.steps.j c.steps.steps c.in_err-step.field-0.0 c.steps.invariant c.steps-test.true
+    rw (p.1, p.2) (item_refused (step_items c.args.vertices) c.args.count c.args.text.now c.steps.text c.steps.j c.steps.steps (IsExcused c.in_err-step.field-0.0) c.steps.invariant c.steps-test.true
     (λ step later shape behind e. c.in_err-step.ensures.found step later shape e) steps rest (steps_stand c.args.vertices c.args.count c.args.text.now steps rest full each there))
 
 pub steps-preserved : goal.steps-preserved

@@ -19,7 +19,7 @@ returns-in_err-take_end-clause-refused c = λ e answer shape there.
     let g = c.args.graph.now in
     let front = alone c.new-rest.ensures (there ∙ sym (text_of_parts g answer shape.fits)) in
     let found = c.in_ok-first.ensures.found (parts_of g answer) [] (parts_shape g answer c.vertices.ensures.limits shape) front in
-    not_refused c.in_err-take_end.field-0.0 c.from_residual-in_err-take_end.result c.from_residual-in_err-take_end.ensures.1 e (c.in_err-take_end.ensures.found found.1)
+    absurd (c.in_err-take_end.ensures.found found.1)
 
 pub returns-then-not-have_values-clause-refused : goal.returns-then-not-have_values-clause-refused
 returns-then-not-have_values-clause-refused c = λ e answer shape there.

@@ -8,14 +8,12 @@ use Rattle.pf_principal.proofs.text.take_parts.Goals as goal
 
 pub returns-in_err-take_word-clause-found : goal.returns-in_err-take_word-clause-found
 returns-in_err-take_word-clause-found c = λ parts rest shape there.
-    let p = err_from_is_err_and c.from_residual.result c.from_residual.ensures.1 in
-    rw (p.1, p.2) (c.in_err-take_word.ensures.found (count_lines c.args.graph.now parts rest) (there ∙ all_lines c.args.graph.now parts rest))
+    absurd (c.in_err-take_word.ensures.found (count_lines c.args.graph.now parts rest) (there ∙ all_lines c.args.graph.now parts rest))
 
 pub returns-in_err-count-clause-found : goal.returns-in_err-count-clause-found
 returns-in_err-count-clause-found c = λ parts rest shape there.
-    let p = err_from_is_err_and c.from_residual-in_err-count.result c.from_residual-in_err-count.ensures.1 in
     let a = c.in_ok-take_word.ensures.found (count_lines c.args.graph.now parts rest) (there ∙ all_lines c.args.graph.now parts rest) in
-    rw (p.1, p.2) (c.in_err-count.ensures.found (length parts.steps) (first_lines c.args.graph.now parts.first parts.steps parts.vectors parts.splits rest) (omega arith)
+    absurd (c.in_err-count.ensures.found (length parts.steps) (first_lines c.args.graph.now parts.first parts.steps parts.vectors parts.splits rest) (omega arith)
     (steps_behind c.args.graph.now parts.first parts.steps parts.vectors parts.splits rest) a)
 
 pub returns-in_err-first-clause-found : goal.returns-in_err-first-clause-found
@@ -53,7 +51,6 @@ returns-in_err-take_levels-clause-found c = λ parts rest shape there.
 
 pub returns-in_err-take_word-2-clause-found : goal.returns-in_err-take_word-2-clause-found
 returns-in_err-take_word-2-clause-found c = λ parts rest shape there.
-    let p = err_from_is_err_and c.from_residual-in_err-take_word-2.result c.from_residual-in_err-take_word-2.ensures.1 in
     let a = c.in_ok-take_word.ensures.found (count_lines c.args.graph.now parts rest) (there ∙ all_lines c.args.graph.now parts rest) in
     let k = c.in_ok-count.ensures.found (length parts.steps) (first_lines c.args.graph.now parts.first parts.steps parts.vectors parts.splits rest) (omega arith)
     (steps_behind c.args.graph.now parts.first parts.steps parts.vectors parts.splits rest) a in
@@ -63,7 +60,7 @@ returns-in_err-take_word-2-clause-found c = λ parts rest shape there.
     let s = c.in_ok-steps.ensures.found parts.steps (table_lines c.args.graph.now parts.vectors parts.splits rest) (sym k.0) (subst S (sym c.vertices-vertices.ensures.value) shape.steps) f.1 in
     let T : ℕ → Type 0 = λ n. AreTables c.args.graph.now n parts.vectors parts.splits in
     let t = c.in_ok-take_levels.ensures.found parts.vectors parts.splits (last_lines rest) (subst T (sym k.0) shape.tables) s.1 in
-    rw (p.1, p.2) (c.in_err-take_word-2.ensures.found rest t.2)
+    absurd (c.in_err-take_word-2.ensures.found rest t.2)
 
 pub returns-clause-found : goal.returns-clause-found
 returns-clause-found c = λ parts rest shape there.

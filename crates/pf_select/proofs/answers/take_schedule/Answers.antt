@@ -7,14 +7,12 @@ use Rattle.pf_select.proofs.answers.take_schedule.Goals as goal
 
 pub returns-in_err-take_word-clause-found : goal.returns-in_err-take_word-clause-found
 returns-in_err-take_word-clause-found c = λ answer rest shape there.
-    let p = err_from_is_err_and c.from_residual.result c.from_residual.ensures.1 in
-    rw (p.1, p.2) (c.in_err-take_word.ensures.found (count_lines c.args.catalogue.now answer rest) (there ∙ all_lines c.args.catalogue.now answer rest))
+    absurd (c.in_err-take_word.ensures.found (count_lines c.args.catalogue.now answer rest) (there ∙ all_lines c.args.catalogue.now answer rest))
 
 pub returns-in_err-count-clause-found : goal.returns-in_err-count-clause-found
 returns-in_err-count-clause-found c = λ answer rest shape there.
-    let p = err_from_is_err_and c.from_residual-in_err-count.result c.from_residual-in_err-count.ensures.1 in
     let a = c.in_ok-take_word.ensures.found (count_lines c.args.catalogue.now answer rest) (there ∙ all_lines c.args.catalogue.now answer rest) in
-    rw (p.1, p.2) (c.in_err-count.ensures.found (length answer.prices) (selection_lines c.args.catalogue.now answer.prices answer.selections answer.charges rest) (omega arith) (prices_are_few c.args.catalogue.now answer rest shape) a)
+    absurd (c.in_err-count.ensures.found (length answer.prices) (selection_lines c.args.catalogue.now answer.prices answer.selections answer.charges rest) (omega arith) (prices_are_few c.args.catalogue.now answer rest shape) a)
 
 pub returns-in_err-outline-clause-found : goal.returns-in_err-outline-clause-found
 returns-in_err-outline-clause-found c = λ answer rest shape there.
@@ -33,12 +31,11 @@ returns-in_err-charges-clause-found c = λ answer rest shape there.
 
 pub returns-in_err-take_word-2-clause-found : goal.returns-in_err-take_word-2-clause-found
 returns-in_err-take_word-2-clause-found c = λ answer rest shape there.
-    let p = err_from_is_err_and c.from_residual-in_err-take_word-2.result c.from_residual-in_err-take_word-2.ensures.1 in
     let a = c.in_ok-take_word.ensures.found (count_lines c.args.catalogue.now answer rest) (there ∙ all_lines c.args.catalogue.now answer rest) in
     let k = c.in_ok-count.ensures.found (length answer.prices) (selection_lines c.args.catalogue.now answer.prices answer.selections answer.charges rest) (omega arith) (prices_are_few c.args.catalogue.now answer rest shape) a in
     let s = c.in_ok-outline.ensures.found answer.prices answer.selections (charge_lines answer.charges rest) (selections_shape c.args.catalogue.now answer c.in_ok-count.count shape k.0) k.1 in
     let f = c.in_ok-charges.ensures.found answer.charges (last_lines rest) (shape.charges_count ∙ sym k.0) (rows_of_shape c.args.catalogue.now c.needs-width.result answer.charges c.needs-width.ensures shape.charges) s.2 in
-    rw (p.1, p.2) (c.in_err-take_word-2.ensures.found rest f.1)
+    absurd (c.in_err-take_word-2.ensures.found rest f.1)
 
 pub returns-clause-found : goal.returns-clause-found
 returns-clause-found c = λ answer rest shape there.

@@ -1,5 +1,6 @@
 use Rattle.std.proofs.Common.{◌++◌, arith}
 use Rattle.std.proofs.lemmas.Result.{err_from_is_err_and}
+use Rattle.pf_lines.specs.Taking.{IsExcused}
 use Rattle.pf_lines.proofs.PartsTaken.{parts_begin, part_taken, part_refused, parts_end}
 use Rattle.pf_select.specs.Outline.{all_changes}
 use Rattle.pf_select.proofs.OutlineLemmas.{outline_parts, outline_stands, outline_ends}
@@ -19,7 +20,7 @@ changes-init c =
 pub returns-in_err-change-clause-found : goal.returns-in_err-change-clause-found
 returns-in_err-change-clause-found c = λ first changes rest full number each e.
     let p = err_from_is_err_and c.from_residual-in_err-change.result c.from_residual-in_err-change.ensures.1 in
-    rw (p.1, p.2) (part_refused (outline_parts c.args.width) c.args.count c.args.text.now c.changes.text c.changes.j c.changes.outline c.changes.invariant c.in_err-change.field-0.0 c.changes-test.true
+    rw (p.1, p.2) (part_refused (outline_parts c.args.width) c.args.count c.args.text.now c.changes.text c.changes.j c.changes.outline c.changes.invariant (IsExcused c.in_err-change.field-0.0) c.changes-test.true
     (λ change later is behind there. c.in_err-change.ensures.found change later is there) first changes rest (outline_stands c.args.width c.args.count c.args.text.now first changes rest full number each e))
 
 pub changes-preserved : goal.changes-preserved

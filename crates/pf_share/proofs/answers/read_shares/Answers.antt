@@ -9,7 +9,7 @@ returns-in_err-answer-clause-refused c = λ e answer shape there.
 pub returns-in_err-take_end-clause-refused : goal.returns-in_err-take_end-clause-refused
 returns-in_err-take_end-clause-refused c = λ e answer shape there.
     let found = c.in_ok-answer.ensures.found answer [] shape (alone c.new-rest.ensures there) in
-    not_refused c.in_err-take_end.field-0.0 c.from_residual-in_err-take_end.result c.from_residual-in_err-take_end.ensures.1 e (c.in_err-take_end.ensures.found found.1)
+    absurd (c.in_err-take_end.ensures.found found.1)
 
 pub returns-clause-text : goal.returns-clause-text
 returns-clause-text c = whole c.new-rest.ensures c.in_ok-answer.ensures.taken c.in_ok-take_end.ensures.taken

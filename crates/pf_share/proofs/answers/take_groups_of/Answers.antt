@@ -7,8 +7,7 @@ use Rattle.pf_share.proofs.answers.take_groups_of.Goals as goal
 
 pub returns-in_err-count-clause-found : goal.returns-in_err-count-clause-found
 returns-in_err-count-clause-found c = λ levels groups rest shape there.
-    let p = err_from_is_err_and c.from_residual.result c.from_residual.ensures.1 in
-    rw (p.1, p.2) (c.in_err-count.ensures.found (length levels) (level_lines levels groups rest) (omega arith) (levels_are_few levels groups rest) (there ∙ front_lines levels groups rest))
+    absurd (c.in_err-count.ensures.found (length levels) (level_lines levels groups rest) (omega arith) (levels_are_few levels groups rest) (there ∙ front_lines levels groups rest))
 
 pub returns-in_err-levels-clause-found : goal.returns-in_err-levels-clause-found
 returns-in_err-levels-clause-found c = λ levels groups rest shape there.

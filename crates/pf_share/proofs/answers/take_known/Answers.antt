@@ -2,14 +2,12 @@ use Rattle.std.proofs.Common.{◌≡◌, ◌++◌, ◌∷◌, ap, ◌∙◌, ari
 use Rattle.std.specs.Fmt.{signed_decimal}
 use Rattle.std.specs.Int.{w128}
 use Rattle.std.proofs.lemmas.Int.{ints, to_z-of_z}
-use Rattle.std.proofs.lemmas.Result.{err_from_is_err_and}
 use Rattle.pf_share.proofs.answers.take_known.Goals as goal
 
 pub returns-in_err-take_number-clause-found : goal.returns-in_err-take_number-clause-found
 returns-in_err-take_number-clause-found c = λ rest stops there.
-    let p = err_from_is_err_and c.from_residual.result c.from_residual.ensures.1 in
     let found = rw (to_z-of_z w128 c.args.number c.ranges.number) at c.in_err-take_number.ensures.found in
-    rw (p.1, p.2) (found c.args.number rest (omega (arith, ints)) (omega (arith, ints)) stops there)
+    absurd (found c.args.number rest (omega (arith, ints)) (omega (arith, ints)) stops there)
 
 pub returns-clause-taken : goal.returns-clause-taken
 returns-clause-taken c =

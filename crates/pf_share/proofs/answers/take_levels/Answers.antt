@@ -1,5 +1,4 @@
 use Rattle.std.proofs.Common.{arith}
-use Rattle.std.proofs.lemmas.Result.{err_from_is_err_and}
 use Rattle.pf_lines.proofs.ItemsTaken.{items_begin, item_taken, item_refused, items_end}
 use Rattle.pf_share.proofs.ShareLines.{level_items, levels_stand}
 use Rattle.pf_share.proofs.answers.take_levels.Goals as goal
@@ -9,8 +8,7 @@ levels-init c = rw c.new-levels.ensures (items_begin level_items c.args.count c.
 
 pub returns-in_err-level-clause-found : goal.returns-in_err-level-clause-found
 returns-in_err-level-clause-found c = λ levels rest full each there.
-    let p = err_from_is_err_and c.from_residual.result c.from_residual.ensures.1 in
-    rw (p.1, p.2) (item_refused level_items c.args.count c.args.text.now c.levels.text c.levels.j c.levels.levels c.in_err-level.field-0.0 c.levels.invariant c.levels-test.true
+    absurd (item_refused level_items c.args.count c.args.text.now c.levels.text c.levels.j c.levels.levels ⊥ c.levels.invariant c.levels-test.true
     (λ level later shape behind e. c.in_err-level.ensures.found level later shape e) levels rest (levels_stand c.args.count c.args.text.now levels rest full each there))
 
 pub levels-preserved : goal.levels-preserved

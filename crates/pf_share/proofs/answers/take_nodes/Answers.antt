@@ -1,7 +1,6 @@
 use Rattle.std.proofs.Common.{◌+◌, ◌≤◌, ◌++◌, List, length, drop, arith}
 use Rattle.std.specs.Prelude.{ℤ}
 use Rattle.std.proofs.lemmas.List.{at_drop_all}
-use Rattle.std.proofs.lemmas.Result.{err_from_is_err_and}
 use Rattle.pf_share.specs.Text.{shares_lines}
 use Rattle.pf_share.proofs.ShareLines.{read_begin, read_more, read_piece, read_front, read_end, shares_at}
 use Rattle.pf_share.proofs.answers.take_nodes.Goals as goal
@@ -11,14 +10,13 @@ nodes-init c = read_begin c.args.text.now _
 
 pub returns-in_err-take_node-clause-found : goal.returns-in_err-take_node-clause-found
 returns-in_err-take_node-clause-found c = λ rest there.
-    let p = err_from_is_err_and c.from_residual.result c.from_residual.ensures.1 in
     let a = c.args.answer.now in
     let w = c.args.sharing.now.weights in
     let many = c.nodes-count.ensures.value in
     let full = c.nodes-count.ensures.limits.problem.weights_full in
     let given = c.requires.full in
     let next = shares_at a.levels c.nodes.v w a.groups (omega (arith, c.nodes-test.true, many, full)) (omega (arith, c.nodes-test.true, many, given)) in
-    rw (p.1, p.2) (c.in_err-take_node.ensures.found (shares_lines a.levels (c.nodes.v + 1) (drop (c.nodes.v + 1) w) (drop (c.nodes.v + 1) a.groups) ++ rest)
+    absurd (c.in_err-take_node.ensures.found (shares_lines a.levels (c.nodes.v + 1) (drop (c.nodes.v + 1) w) (drop (c.nodes.v + 1) a.groups) ++ rest)
     (read_piece c.args.text.now c.nodes.text _ _ _ _ rest c.nodes.invariant next there))
 
 pub nodes-preserved : goal.nodes-preserved

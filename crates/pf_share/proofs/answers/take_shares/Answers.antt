@@ -7,8 +7,7 @@ use Rattle.pf_share.proofs.answers.take_shares.Goals as goal
 
 pub returns-in_err-take_word-clause-found : goal.returns-in_err-take_word-clause-found
 returns-in_err-take_word-clause-found c = λ answer rest shape there.
-    let p = err_from_is_err_and c.from_residual.result c.from_residual.ensures.1 in
-    rw (p.1, p.2) (c.in_err-take_word.ensures.found (later_lines c.args.sharing.now answer rest) (there ∙ all_lines c.args.sharing.now answer rest))
+    absurd (c.in_err-take_word.ensures.found (later_lines c.args.sharing.now answer rest) (there ∙ all_lines c.args.sharing.now answer rest))
 
 pub returns-in_err-front-clause-found : goal.returns-in_err-front-clause-found
 returns-in_err-front-clause-found c = λ answer rest shape there.
@@ -21,10 +20,9 @@ take_nodes-requires c = c.in_ok-front.ensures.shape.groups
 
 pub returns-in_err-take_nodes-clause-found : goal.returns-in_err-take_nodes-clause-found
 returns-in_err-take_nodes-clause-found c = λ answer rest shape there.
-    let p = err_from_is_err_and c.from_residual-in_err-take_nodes.result c.from_residual-in_err-take_nodes.ensures.1 in
     let a = c.in_ok-take_word.ensures.found (later_lines c.args.sharing.now answer rest) (there ∙ all_lines c.args.sharing.now answer rest) in
     let f = c.in_ok-front.ensures.found answer.levels answer.groups (node_lines c.args.sharing.now answer rest) (front_of_shape c.args.sharing.now answer shape) a in
-    rw (p.1, p.2) (c.in_err-take_nodes.ensures.found (flow_lines answer.flow rest) (behind_front c.args.sharing.now answer c.in_ok-front.front _ rest f.0 f.1))
+    absurd (c.in_err-take_nodes.ensures.found (flow_lines answer.flow rest) (behind_front c.args.sharing.now answer c.in_ok-front.front _ rest f.0 f.1))
 
 pub returns-in_err-flow-clause-found : goal.returns-in_err-flow-clause-found
 returns-in_err-flow-clause-found c = λ answer rest shape there.
@@ -36,12 +34,11 @@ returns-in_err-flow-clause-found c = λ answer rest shape there.
 
 pub returns-in_err-take_word-2-clause-found : goal.returns-in_err-take_word-2-clause-found
 returns-in_err-take_word-2-clause-found c = λ answer rest shape there.
-    let p = err_from_is_err_and c.from_residual-in_err-take_word-2.result c.from_residual-in_err-take_word-2.ensures.1 in
     let a = c.in_ok-take_word.ensures.found (later_lines c.args.sharing.now answer rest) (there ∙ all_lines c.args.sharing.now answer rest) in
     let f = c.in_ok-front.ensures.found answer.levels answer.groups (node_lines c.args.sharing.now answer rest) (front_of_shape c.args.sharing.now answer shape) a in
     let n = c.in_ok-take_nodes.ensures.found (flow_lines answer.flow rest) (behind_front c.args.sharing.now answer c.in_ok-front.front _ rest f.0 f.1) in
     let w = c.in_ok-flow.ensures.found answer.flow (last_lines rest) (flow_of_shape c.args.sharing.now answer c.arcs-width.result c.arcs-width.ensures.value shape) n in
-    rw (p.1, p.2) (c.in_err-take_word-2.ensures.found rest w.1)
+    absurd (c.in_err-take_word-2.ensures.found rest w.1)
 
 pub returns-clause-found : goal.returns-clause-found
 returns-clause-found c = λ answer rest shape there.

@@ -8,8 +8,7 @@ use Rattle.pf_strength.proofs.partition_lines.take_counted_partition.Goals as go
 
 pub returns-in_err-count-clause-found : goal.returns-in_err-count-clause-found
 returns-in_err-count-clause-found c = λ labels rest rule there.
-    let p = err_from_is_err_and c.from_residual.result c.from_residual.ensures.1 in
-    rw (p.1, p.2) (c.in_err-count.ensures.found (parts labels) (label_line (codes "s") [] labels ++ rest) (parts_count c.args.vertices labels c.requires.some rule) (parts_behind labels rest)
+    absurd (c.in_err-count.ensures.found (parts labels) (label_line (codes "s") [] labels ++ rest) (parts_count c.args.vertices labels c.requires.some rule) (parts_behind labels rest)
     (there ∙ both_lines labels rest))
 
 pub returns-in_err-partition-clause-found : goal.returns-in_err-partition-clause-found

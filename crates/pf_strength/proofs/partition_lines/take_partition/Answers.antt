@@ -1,7 +1,7 @@
 use Rattle.std.proofs.Common.{List, ℕ, ◌++◌, length, sym, ap, ◌∙◌}
 use Rattle.std.proofs.lemmas.Result.{err_from_is_err_and}
 use Rattle.pf_text.specs.Spelling.{label_line}
-use Rattle.pf_strength.specs.TextLaws.{labels_of_partition}
+use Rattle.pf_graph.proofs.LineLabels.{labels_of_partition}
 use Rattle.pf_strength.proofs.PartitionLemmas.{same_rule, rule_of_length}
 use Rattle.pf_strength.proofs.partition_lines.take_partition.Goals as goal
 

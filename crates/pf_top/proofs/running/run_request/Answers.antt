@@ -15,8 +15,5 @@ returns-in-Reinforce g c = rw c.in-Reinforce.is c.answer-in-Reinforce.ensures
 pub returns-in-Layers : goal.returns-in-Layers
 returns-in-Layers g c = rw c.in-Layers.is c.answer-in-Layers.ensures
 
-pub returns-in-Answer : goal.returns-in-Answer
-returns-in-Answer g c = rw c.in-Answer.is c.answer_named.ensures
-
-pub returns-in-Check : goal.returns-in-Check
-returns-in-Check g c = rw c.in-Check.is c.check_named.ensures
+pub returns-in-Named : goal.returns-in-Named
+returns-in-Named g c = rw c.in-Named.is c.give_named.ensures
